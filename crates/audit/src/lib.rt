@@ -1,0 +1,5 @@
+mod lines;
+#[cfg(test)]
+mod tests;
+
+pub use lines::Lines;

@@ -1,0 +1,10 @@
+pub mod Reading
+pub mod Upward
+pub mod Ones
+pub mod Sequences
+pub mod Stops
+pub mod Standing
+pub mod Leads
+pub mod Methods
+pub mod Agree
+pub mod Accepts

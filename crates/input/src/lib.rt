@@ -1,0 +1,22 @@
+mod array;
+mod fault;
+mod judge;
+mod source;
+mod utf8;
+
+pub use array::ArrayIsSource;
+pub use array::ArraySource;
+pub use fault::Fault;
+pub use fault::FaultDisplay;
+pub use fault::Notice;
+pub use fault::Part;
+pub use fault::PartDisplay;
+pub use judge::Judge;
+pub use judge::OpenIsJudge;
+pub use judge::OpenJudge;
+pub use judge::Question;
+pub use judge::SeatJudge;
+pub use judge::SeatsAreJudge;
+pub use source::Source;
+pub use utf8::Utf8IsSource;
+pub use utf8::Utf8Source;

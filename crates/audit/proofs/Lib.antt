@@ -1,2 +1,4 @@
 pub mod Cuts
+pub mod Reports
 pub mod Steps
+pub mod Walks

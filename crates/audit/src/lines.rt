@@ -1,4 +1,4 @@
-ghost use Prim.Native.Nat.{_≤_};
+ghost use Prim.Native.Nat.{_^_, _≤_, _<_};
 ghost use lib.ListN.{length};
 ghost use denote.Ref.{now as held};
 
@@ -10,4 +10,5 @@ pub struct Lines<'a> {
     recording: &'a [u8],
     at: usize,
     ghost inside: { at ≤ length (held recording) },
+    ghost small: { length (held recording) < 2 ^ 64 },
 }

@@ -1,10 +1,12 @@
 -- The leading ones of the first byte of a sequence of a text tell its size. Assumes nothing.
 use mathlib.Core.Path.{_≡_}
 use mathlib.Core.List.{List}
+use mathlib.Core.Logic.{⊎-elim}
 use Prim.Native.Nat.{ℕ, _+_, _-_, _≤_, _<_}
 use native.Mathlib.Omega.{arith}
 use lib.Count.{leadingZeros}
 use lib.ListN.{length, getD}
+use Rattle.std.proofs.shelf.Tests.{cases-eq}
 use Rattle.input.specs.Rows.{Tail, ShapeAt, shape-at}
 use Rattle.input.specs.Utf8.{sizeAt, Readable, Stands}
 use Rattle.input.proofs.Ones.{ones-0, ones-2, ones-3, ones-4, ones-else}
@@ -31,11 +33,12 @@ module _ (bs : List ℕ) (at ones : ℕ) (readable : Readable bs) (stands : Stan
       let s = is-three _ _ _ _ _ (shape-at bs at) any (r .0) (r .1) in
       (s .0, r .0, r .1, s .1 .0, s .2)
 
-  pub four-at : ones ≡ 4 → (sizeAt bs at ≡ 4) × (240 ≤ getD bs at 0) × (getD bs at 0 ≤ 247) × Tail (getD bs (at + 1) 0) × Tail (getD bs (at + 2) 0) × Tail (getD bs (at + 3) 0)
-  four-at e =
-      let r = ones-4 _ ones byte count e in
+  pub four-at : (ones ≡ 0 → ⊥) → (ones ≡ 2 → ⊥) → (ones ≡ 3 → ⊥)
+      → (sizeAt bs at ≡ 4) × (240 ≤ getD bs at 0) × (getD bs at 0 ≤ 247) × Tail (getD bs (at + 1) 0) × Tail (getD bs (at + 2) 0) × Tail (getD bs (at + 3) 0)
+  four-at n0 n2 n3 =
+      ⊎-elim
+      (λ e. let r = ones-4 _ ones byte count e in
       let s = is-four _ _ _ _ _ (shape-at bs at) any (r .0) in
-      (s .0, r .0, r .1, s .2 .0, s .3, s .4)
-
-  pub no-other : (ones ≡ 0 → ⊥) → (ones ≡ 2 → ⊥) → (ones ≡ 3 → ⊥) → (ones ≡ 4 → ⊥) → ⊥
-  no-other n0 n2 n3 n4 = omega (arith, any, is-none _ _ _ _ _ (shape-at bs at) (ones-else _ ones byte count n0 n2 n3 n4))
+      (s .0, r .0, r .1, s .2 .0, s .3, s .4))
+      (λ n4. absurd (omega (arith, any, is-none _ _ _ _ _ (shape-at bs at) (ones-else _ ones byte count n0 n2 n3 n4))))
+      (cases-eq ones 4)

@@ -1,4 +1,5 @@
 pub mod Faults
+pub mod Words
 pub mod Text
 pub mod Arrays
 pub mod Utf8

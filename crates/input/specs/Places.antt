@@ -35,7 +35,7 @@ up-rising lo hi (x ∷ xs) j zero d u l h = absurd (omega arith)
 up-rising lo hi (x ∷ xs) zero (suc k) d u l h = up-at (suc x) hi xs k d (u .2) (omega arith) .0
 up-rising lo hi (x ∷ xs) (suc j) (suc k) d u l h = up-rising (suc x) hi xs j k d (u .2) (omega arith) (omega arith)
 
-up-length : (lo hi : ℕ) (xs : List ℕ) → Up lo hi xs → lo ≤ hi → lo + length xs ≤ hi
+pub up-length : (lo hi : ℕ) (xs : List ℕ) → Up lo hi xs → lo ≤ hi → lo + length xs ≤ hi
 up-length lo hi [] u h = omega arith
 up-length lo hi (x ∷ xs) u h = omega (arith, up-length (suc x) hi xs (u .2) (u .1))
 

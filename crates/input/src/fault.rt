@@ -1,5 +1,7 @@
 ghost use mathlib.Core.Path.{_≡_};
+ghost use Rattle.std.specs.declared.option.Option.the-variants.{Some};
 ghost use Rattle.input.specs.Faults.{notice, told};
+ghost use Rattle.input.specs.Words.{lineOf, nameOf, wordsOf};
 use std::fmt;
 
 /// The part of the work that a fault is about.
@@ -42,7 +44,11 @@ impl Notice {
     fn of(number: u32, place: usize, part: Part) -> Notice
         ensures { λ r. ⌜ r ≡ notice number place part ⌝ }
     {
-        Notice { number, place, part }
+        Notice {
+            number,
+            place,
+            part,
+        }
     }
 }
 
@@ -71,7 +77,9 @@ impl Fault {
     }
 
     /// What went wrong, in words.
-    pub fn words(&self) -> &'static str {
+    pub fn words(&self) -> &'static str
+        ensures { λ r. ⌜ now r ≡ wordsOf (now (self .entry)) ⌝ }
+    {
         match *self {
             Fault::ImageEndsEarly(_) => "the table ends before its sections are complete",
             Fault::CountOutOfRange(_) => "a count of the table is outside its limits",
@@ -92,19 +100,37 @@ impl Fault {
     }
 }
 
-pub impl fmt::Display for Part as PartDisplay {
-    fn fmt<W: fmt::Write>(&self, f: &mut fmt::Formatter<W>) -> fmt::Result {
+impl Part {
+    /// The part's name.
+    pub fn name(&self) -> &'static str
+        ensures { λ r. ⌜ now r ≡ nameOf (now (self .entry)) ⌝ }
+    {
         match *self {
-            Part::Table => write!(f, "table"),
-            Part::Text => write!(f, "text"),
-            Part::Run => write!(f, "run"),
+            Part::Table => "table",
+            Part::Text => "text",
+            Part::Run => "run",
         }
     }
 }
 
-pub impl fmt::Display for Fault as FaultDisplay {
+pub impl fmt::Display for Part as PartDisplay {
+    ghost shown = { λ p. Some (nameOf p) };
+
     fn fmt<W: fmt::Write>(&self, f: &mut fmt::Formatter<W>) -> fmt::Result {
-        let Notice { number, place, part } = self.told();
+        let name = self.name();
+        write!(f, "{name}")
+    }
+}
+
+pub impl fmt::Display for Fault as FaultDisplay {
+    ghost shown = { λ f. Some (lineOf f) };
+
+    fn fmt<W: fmt::Write>(&self, f: &mut fmt::Formatter<W>) -> fmt::Result {
+        let Notice {
+            number,
+            place,
+            part,
+        } = self.told();
         let words = self.words();
         write!(f, "refused {number} at {place} in {part}: {words}")
     }

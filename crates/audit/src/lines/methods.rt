@@ -30,6 +30,7 @@ impl<'a> Lines<'a> {
         ensures cut { λ r. ⌜ Cut (now (recording .entry)) (left r) ⌝ }
         ensures only { λ r. ⌜ ((ls : List (List ℕ)) → Cut (now (recording .entry)) ls → ls ≡ left r) ⌝ }
         ensures bytes { λ r. ⌜ bytesLeft r ≡ length (now (recording .entry)) ⌝ }
+        ensures recording { λ r. ⌜ now (r .recording) ≡ now (recording .entry) ⌝ }
     {
         Lines { recording, at: 0 }
     }
@@ -44,6 +45,7 @@ impl<'a> Lines<'a> {
           | None ↦ (bytesLeft (now (self .entry)) ≡ 0) × (bytesLeft (now (self .exit)) ≡ 0)
           | Some line ↦ (bytesLeft (now (self .exit)) < bytesLeft (now (self .entry))) × (length (now line) + bytesLeft (now (self .exit)) ≤ bytesLeft (now (self .entry)))
         ] ⌝ }
+        ensures recording { λ _. ⌜ now (now (self .exit) .recording) ≡ now (now (self .entry) .recording) ⌝ }
     {
         let recording = self.recording;
         let start = self.at;

@@ -44,7 +44,11 @@ fn size_of_four(a: u8, b: u8, c: u8, d: u8) -> usize
     requires { ⌜ 240 ≤ a ⌝ ∗ ⌜ a ≤ 247 ⌝ }
     ensures { λ r. ⌜ r ≡ sizeOf a b c d ⌝ }
 {
-    if (a <= 0xf4) & may_follow(a, b) & is_tail(c) & is_tail(d) { 4 } else { 0 }
+    if (a <= 0xf4) & may_follow(a, b) & is_tail(c) & is_tail(d) {
+        4
+    } else {
+        0
+    }
 }
 
 // The byte at a place; past the end it counts as 0.
@@ -63,8 +67,17 @@ pub fn size_at(bytes: &[u8], at: usize) -> usize
     match first.leading_ones() {
         0 => 1,
         2 => size_of_two(first, byte_or_zero(bytes, at + 1)),
-        3 => size_of_three(first, byte_or_zero(bytes, at + 1), byte_or_zero(bytes, at + 2)),
-        4 => size_of_four(first, byte_or_zero(bytes, at + 1), byte_or_zero(bytes, at + 2), byte_or_zero(bytes, at + 3)),
+        3 => size_of_three(
+            first,
+            byte_or_zero(bytes, at + 1),
+            byte_or_zero(bytes, at + 2),
+        ),
+        4 => size_of_four(
+            first,
+            byte_or_zero(bytes, at + 1),
+            byte_or_zero(bytes, at + 2),
+            byte_or_zero(bytes, at + 3),
+        ),
         _ => 0,
     }
 }
@@ -82,9 +95,17 @@ pub fn read_at(bytes: &[u8], at: usize) -> Option<(u32, usize)>
     match bytes[at].leading_ones() {
         0 => Some((first, 1)),
         2 => Some((first % 32 * 64 + low_six(bytes[at + 1]), 2)),
-        3 => Some((first % 16 * 4096 + low_six(bytes[at + 1]) * 64 + low_six(bytes[at + 2]), 3)),
-        4 => Some((first % 8 * 262144 + low_six(bytes[at + 1]) * 4096 + low_six(bytes[at + 2]) * 64 + low_six(bytes[at + 3]), 4)),
-        _ => unreachable(),
+        3 => Some((
+            first % 16 * 4096 + low_six(bytes[at + 1]) * 64 + low_six(bytes[at + 2]),
+            3,
+        )),
+        _ => Some((
+            first % 8 * 262144
+                + low_six(bytes[at + 1]) * 4096
+                + low_six(bytes[at + 2]) * 64
+                + low_six(bytes[at + 3]),
+            4,
+        )),
     }
 }
 

@@ -1,4 +1,5 @@
 use borrow.Author.Needs.{needs}
+use mathlib.Core.Path.{refl}
 use Prim.Native.Nat.{_≤_, _<_}
 use native.Mathlib.Omega.{arith}
 use lib.ListN.{length}
@@ -13,7 +14,7 @@ returns-then-start-recording c =
     let s = c .args .self .now in
     let past : length (s .recording .now) ≤ s .at = omega arith in
     let none = at-drop-all linesOf (s .recording .now) (s .at) past in
-    record { lines = (none, none); bytes = search needs }
+    record { lines = (none, none); bytes = search needs; recording = refl }
 
 pub returns : need.returns
 returns c =
@@ -29,4 +30,5 @@ returns c =
         | else-end-recording w ↦ next-last bs (s .at) end (said .within .0) (said .within .1) (said .before) next more (w .if-end-recording .left) (w .self-is)
       ];
       bytes = search needs;
+      recording = search needs;
     }

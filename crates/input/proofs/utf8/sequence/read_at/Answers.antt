@@ -3,7 +3,7 @@ use native.Mathlib.Omega.{arith}
 use lib.ListN.{length}
 use Rattle.std.proofs.shelf.Tests.{cond-false, le-ltb}
 use Rattle.input.specs.Utf8.{readAt}
-use Rattle.input.proofs.Leads.{one-at, two-at, three-at, four-at, no-other}
+use Rattle.input.proofs.Leads.{one-at, two-at, three-at, four-at}
 use Rattle.input.proofs.Sequences.{read-is, byte-inside, symbol-four}
 use Rattle.input.proofs.utf8.sequence.read_at.Needs as need
 
@@ -47,33 +47,28 @@ returns-in-3 c =
     let s = three-at (c .args .bytes .now) (c .args .at) _ (c .pre .text) (c .pre .place) l (omega arith) (c .leading-ones .ensures) (c .in-3 .is) in
     read-is (c .args .bytes .now) (c .args .at) _ 3 l (s .0) (omega arith)
 
-pub index-bytes-at-in-4 : need.index-bytes-at-in-4
-index-bytes-at-in-4 c =
+pub index-bytes-at-in-rest : need.index-bytes-at-in-rest
+index-bytes-at-in-rest c =
     let l = c .if-at-bytes .left in
-    let s = four-at (c .args .bytes .now) (c .args .at) _ (c .pre .text) (c .pre .place) l (omega arith) (c .leading-ones .ensures) (c .in-4 .is) in
+    let s = four-at (c .args .bytes .now) (c .args .at) _ (c .pre .text) (c .pre .place) l (omega arith) (c .leading-ones .ensures) (λ e. omega arith) (λ e. omega arith) (λ e. omega arith) in
     byte-inside (c .args .bytes .now) (c .args .at) 4 1 l (s .0) (omega arith)
 
-pub index-bytes-at-in-4-2 : need.index-bytes-at-in-4-2
-index-bytes-at-in-4-2 c =
+pub index-bytes-at-in-rest-2 : need.index-bytes-at-in-rest-2
+index-bytes-at-in-rest-2 c =
     let l = c .if-at-bytes .left in
-    let s = four-at (c .args .bytes .now) (c .args .at) _ (c .pre .text) (c .pre .place) l (omega arith) (c .leading-ones .ensures) (c .in-4 .is) in
+    let s = four-at (c .args .bytes .now) (c .args .at) _ (c .pre .text) (c .pre .place) l (omega arith) (c .leading-ones .ensures) (λ e. omega arith) (λ e. omega arith) (λ e. omega arith) in
     byte-inside (c .args .bytes .now) (c .args .at) 4 2 l (s .0) (omega arith)
 
-pub index-bytes-at-in-4-3 : need.index-bytes-at-in-4-3
-index-bytes-at-in-4-3 c =
+pub index-bytes-at-in-rest-3 : need.index-bytes-at-in-rest-3
+index-bytes-at-in-rest-3 c =
     let l = c .if-at-bytes .left in
-    let s = four-at (c .args .bytes .now) (c .args .at) _ (c .pre .text) (c .pre .place) l (omega arith) (c .leading-ones .ensures) (c .in-4 .is) in
+    let s = four-at (c .args .bytes .now) (c .args .at) _ (c .pre .text) (c .pre .place) l (omega arith) (c .leading-ones .ensures) (λ e. omega arith) (λ e. omega arith) (λ e. omega arith) in
     byte-inside (c .args .bytes .now) (c .args .at) 4 3 l (s .0) (omega arith)
 
-pub returns-in-4 : need.returns-in-4
-returns-in-4 c =
+pub returns-in-rest : need.returns-in-rest
+returns-in-rest c =
     let l = c .if-at-bytes .left in
-    let s = four-at (c .args .bytes .now) (c .args .at) _ (c .pre .text) (c .pre .place) l (omega arith) (c .leading-ones .ensures) (c .in-4 .is) in
+    let s = four-at (c .args .bytes .now) (c .args .at) _ (c .pre .text) (c .pre .place) l (omega arith) (c .leading-ones .ensures) (λ e. omega arith) (λ e. omega arith) (λ e. omega arith) in
     let v = symbol-four _ _ _ _ (s .1) (s .2) (s .3) (s .4) (s .5) in
     read-is (c .args .bytes .now) (c .args .at) _ 4 l (s .0)
-    (simp (c .from-first .ensures, c .low-six-in-4 .ensures, c .low-six-in-4-2 .ensures, c .low-six-in-4-3 .ensures) v)
-
-pub unreachable-requires : need.unreachable-requires
-unreachable-requires c κs =
-    no-other (c .args .bytes .now) (c .args .at) _ (c .pre .text) (c .pre .place) (c .if-at-bytes .left) (omega arith) (c .leading-ones .ensures)
-    (λ e. omega arith) (λ e. omega arith) (λ e. omega arith) (λ e. omega arith)
+    (simp (c .from-first .ensures, c .low-six-in-rest .ensures, c .low-six-in-rest-2 .ensures, c .low-six-in-rest-3 .ensures) v)

@@ -1,0 +1,5 @@
+pub mod Adding
+pub mod Distinct
+pub mod Meanings
+pub mod Members
+pub mod Position

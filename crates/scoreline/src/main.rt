@@ -1,5 +1,7 @@
 //! The score line's program: audits recordings, and measures how fast a text is walked.
 mod files;
+#[cfg(test)]
+mod tests;
 
 use audit::Task;
 use audit::task_of;

@@ -5,7 +5,6 @@ use mathlib.Core.List.{List, [], _∷_}
 use Prim.Native.Nat.{ℕ, _+_}
 use lib.Dec.{eqb, leb}
 use lib.ListN.{length}
-use Rattle.audit.specs.Lines.{linesOf}
 use Rattle.audit.specs.declared.report.Report.{Report}
 use Rattle.audit.specs.declared.report.Report.the-variants.{Read, Refused as Refusing}
 use Rattle.input.specs.Faults.{told}

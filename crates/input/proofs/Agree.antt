@@ -1,18 +1,18 @@
 -- Bytes that are a text here are one to the standard library, with the same symbols. Assumes nothing.
 use mathlib.Core.Path.{_≡_, refl, sym, ap, _∙_, subst}
-use mathlib.Core.Bool.{Bool, true, false, cond, _&&_}
+use mathlib.Core.Bool.{Bool, true, false, cond}
 use mathlib.Core.List.{List, [], _∷_, _++_, map}
-use mathlib.Core.Logic.{_⊎_, inl, inr, ⊎-elim}
+use mathlib.Core.Logic.{_⊎_, ⊎-elim}
 use Prim.Native.Nat.{ℕ, zero, suc, _+_, _-_, _*_, _/_, _%_, _≤_, _<_}
 use native.Mathlib.Omega.{arith}
 use lib.Dec.{ltb, leb, eqb}
 use lib.ListN.{length, getD, drop}
-use lib.Utf8.{encode, encodes, scalar, scalars, next, low-scalar}
-use Rattle.std.proofs.shelf.Lists.{drop-more, drop-all, append-nil}
+use lib.Utf8.{encode, encodes, scalar, scalars, low-scalar}
+use Rattle.std.proofs.shelf.Lists.{drop-more, drop-all}
 use Rattle.std.proofs.shelf.Text.{encode-ascii, decodes-from-encodes}
 use Rattle.std.specs.Text.{Utf8}
 use Rattle.std.specs.shelf.Text.{decodes}
-use Rattle.std.proofs.shelf.Tests.{cond-true, cond-false, lt-ltb, le-ltb, cases-lt, cases-eq, and-from, le-leb, eqb-false}
+use Rattle.std.proofs.shelf.Tests.{cond-true, cond-false, lt-ltb, le-ltb, cases-lt, and-from, le-leb, eqb-false}
 use Rattle.input.specs.Utf8.{symbolOf, symbolAt, sizeAt, placesFrom, stopFrom, placesOf, stopOf, WellFormed, textOf}
 use Rattle.input.specs.Rows.{Tail, Follows, ShapeAt, no-seq, of-one, of-two, of-three, of-four, shape-at, size-inside, tail-inside}
 use Rattle.input.specs.Places.{Covered, covered-more, covered-size}
@@ -42,14 +42,8 @@ encode-4 v h = cond-false (ltb v 128) _ _ (le-ltb v 128 (omega arith)) ∙ cond-
 high-scalar : (v : ℕ) → 57344 ≤ v → v < 1114112 → scalar v ≡ true
 high-scalar v h l = cond-false (ltb v 55296) _ _ (le-ltb v 55296 (omega arith)) ∙ and-from (leb 57344 v) (ltb v 1114112) (le-leb 57344 v h) (lt-ltb v 1114112 l)
 
-pairs : (w x w' x' : ℕ) → w ≡ w' → x ≡ x' → _≡_ {A = List ℕ} (w ∷ x ∷ []) (w' ∷ x' ∷ [])
-pairs w x w' x' e f = cc
-
-threes : (w x y w' x' y' : ℕ) → w ≡ w' → x ≡ x' → y ≡ y' → _≡_ {A = List ℕ} (w ∷ x ∷ y ∷ []) (w' ∷ x' ∷ y' ∷ [])
-threes w x y w' x' y' e f g = cc
-
-fours : (w x y z w' x' y' z' : ℕ) → w ≡ w' → x ≡ x' → y ≡ y' → z ≡ z' → _≡_ {A = List ℕ} (w ∷ x ∷ y ∷ z ∷ []) (w' ∷ x' ∷ y' ∷ z' ∷ [])
-fours w x y z w' x' y' z' e f g h = cc
+cons : {x y : ℕ} {xs ys : List ℕ} → x ≡ y → xs ≡ ys → x ∷ xs ≡ y ∷ ys
+cons e f = cc
 
 -- a sequence is the encoding of its symbol, which is a scalar value
 abbrev Spelt : ℕ → List ℕ → Type 0
@@ -58,7 +52,7 @@ Spelt v xs = (scalar v ≡ true) × (encode v ≡ xs)
 two-spelt : (a b v : ℕ) → 194 ≤ a → a ≤ 223 → Tail b → v ≡ (a - 192) * 64 + (b - 128) → Spelt v (a ∷ b ∷ [])
 two-spelt a b v i j tb e =
     let r = div2 a b v (omega arith) tb e in
-    (low-scalar v (omega arith), encode-2 v (omega arith) (omega arith) ∙ pairs _ _ _ _ (r .0) (r .1))
+    (low-scalar v (omega arith), encode-2 v (omega arith) (omega arith) ∙ cons (r .0) (cons (r .1) refl))
 
 three-scalar : (a b c v : ℕ) → 224 ≤ a → a ≤ 239 → Follows a b → Tail c → v ≡ (a - 224) * 4096 + (b - 128) * 64 + (c - 128) → scalar v ≡ true
 three-scalar a b c v i j f tc e =
@@ -73,7 +67,7 @@ three-spelt a b c v i j f tc e =
     let tb = f .0 in
     let r = div3 a b c v i tb tc e in
     let low : 2048 ≤ v = ⊎-elim (λ l. let h : 160 ≤ b = f .1 (omega arith) in omega arith) (λ l. omega arith) (cases-lt a 225) in
-    (three-scalar a b c v i j f tc e, encode-3 v low (omega arith) ∙ threes _ _ _ _ _ _ (r .0) (r .1) (r .2))
+    (three-scalar a b c v i j f tc e, encode-3 v low (omega arith) ∙ cons (r .0) (cons (r .1) (cons (r .2) refl)))
 
 four-spelt : (a b c d v : ℕ) → 240 ≤ a → a ≤ 244 → Follows a b → Tail c → Tail d → v ≡ (a - 240) * 262144 + (b - 128) * 4096 + (c - 128) * 64 + (d - 128) → Spelt v (a ∷ b ∷ c ∷ d ∷ [])
 four-spelt a b c d v i j f tc td e =
@@ -81,7 +75,7 @@ four-spelt a b c d v i j f tc td e =
     let r = div4 a b c d v i tb tc td e in
     let low : 65536 ≤ v = ⊎-elim (λ l. let h : 144 ≤ b = f .3 (omega arith) in omega arith) (λ l. omega arith) (cases-lt a 241) in
     let top : v < 1114112 = ⊎-elim (λ l. omega arith) (λ l. let h : b ≤ 143 = f .4 (omega arith) in omega arith) (cases-lt a 244) in
-    (high-scalar v (omega arith) top, encode-4 v low ∙ fours _ _ _ _ _ _ _ _ (r .0) (r .1) (r .2) (r .3))
+    (high-scalar v (omega arith) top, encode-4 v low ∙ cons (r .0) (cons (r .1) (cons (r .2) (cons (r .3) refl))))
 
 -- what is left of the bytes, some bytes further
 drop-2 : (bs : List ℕ) (p : ℕ) → p + 1 < length bs → drop p bs ≡ getD bs p 0 ∷ getD bs (p + 1) 0 ∷ drop (p + 2) bs

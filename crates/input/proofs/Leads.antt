@@ -7,7 +7,7 @@ use native.Mathlib.Omega.{arith}
 use lib.Count.{leadingZeros}
 use lib.ListN.{length, getD}
 use Rattle.std.proofs.shelf.Tests.{cases-eq}
-use Rattle.input.specs.Rows.{Tail, ShapeAt, shape-at}
+use Rattle.input.specs.Rows.{Tail, shape-at}
 use Rattle.input.specs.Utf8.{sizeAt, Readable, Stands}
 use Rattle.input.proofs.Ones.{ones-0, ones-2, ones-3, ones-4, ones-else}
 use Rattle.input.proofs.Sequences.{is-one, is-two, is-three, is-four, is-none}

@@ -13,7 +13,7 @@ use Rattle.std.specs.declared.option.Option.the-variants.{Some, None}
 use Rattle.std.proofs.shelf.Lists.{getD-past, length-map}
 use Rattle.std.proofs.shelf.Tests.{cases-lt, both-ways, lt-ltb, le-ltb, ltb-true, ltb-false}
 use Rattle.input.specs.Text.{readTo, more, coming, stepped, Sought}
-use Rattle.input.specs.Utf8.{within, tail, sizeAt, symbolAt, placesOf, WellFormed, Readable, before, ofBytes, Stands, readAt}
+use Rattle.input.specs.Utf8.{tail, sizeAt, symbolAt, placesOf, WellFormed, before, ofBytes, Stands, readAt}
 use Rattle.input.specs.Rows.{within-says, tail-yes, lead-at, tail-inside, size-inside, symbolAt-small}
 use Rattle.input.specs.Places.{up-at, up-places, before-le, chain-places, chain-next}
 use Rattle.input.proofs.Reading.{coming-symbol, coming-end, stepped-more, stepped-end}

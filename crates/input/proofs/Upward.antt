@@ -1,10 +1,10 @@
 -- The places of an array are its indices. Assumes nothing.
-use mathlib.Core.Path.{_≡_, refl, sym, ap, _∙_}
-use mathlib.Core.List.{List, [], _∷_}
-use Prim.Native.Nat.{ℕ, zero, suc, _+_, _≤_, _<_}
+use mathlib.Core.Path.{_≡_, ap, _∙_}
+use mathlib.Core.List.{List}
+use Prim.Native.Nat.{ℕ, zero, suc, _+_, _≤_}
 use native.Mathlib.Omega.{arith}
 use lib.ListN.{length, getD}
-use Rattle.input.specs.Text.{Text, placeOf}
+use Rattle.input.specs.Text.{placeOf}
 use Rattle.input.specs.Arrays.{upward, ofNumbers}
 
 getD-end : (a n k : ℕ) → k ≤ n → getD (upward a n) k (a + n) ≡ a + k

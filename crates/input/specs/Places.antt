@@ -1,5 +1,5 @@
 -- Laws of the places of a text in UTF-8: they rise, each is followed by the next sequence, and the text is good. Assumes nothing.
-use mathlib.Core.Path.{_≡_, refl, sym, ap, _∙_, subst}
+use mathlib.Core.Path.{_≡_, refl, sym, subst}
 use mathlib.Core.Bool.{Bool, true, false, cond}
 use mathlib.Core.List.{List, [], _∷_, map}
 use mathlib.Core.Logic.{⊎-elim}
@@ -9,7 +9,7 @@ use lib.Dec.{eqb, ltb}
 use lib.ListN.{length, getD}
 use Rattle.std.proofs.shelf.Lists.{getD-map, length-map}
 use Rattle.std.proofs.shelf.Tests.{cases-lt, cond-both, eqb-false}
-use Rattle.input.specs.Text.{Text, Good}
+use Rattle.input.specs.Text.{Good}
 use Rattle.input.specs.Utf8.{sizeAt, symbolAt, placesFrom, stopFrom, placesOf, stopOf, WellFormed, Readable, before, ofBytes}
 use Rattle.input.specs.Rows.{Tail, tails-at, tail-inside, symbolAt-small}
 

@@ -1,12 +1,14 @@
 ghost use mathlib.Core.Path.{_≡_};
-ghost use Prim.Native.Nat.{ℕ, _<_, _≤_};
+ghost use Prim.Native.Nat.{_≤_};
 ghost use denote.Ref.{now};
-ghost use lib.ListN.{length, getD};
+ghost use lib.ListN.{length};
 ghost use Rattle.std.specs.declared.result.Result.the-variants.{Ok, Err};
 ghost use Rattle.input.specs.Arrays.{Readable, Refused, ofNumbers, good-array};
 ghost use Rattle.input.specs.Faults.{told};
 ghost use Rattle.input.specs.Text.{emptyText};
 use crate::fault::Fault;
+use crate::source::MAX_LENGTH;
+use crate::source::MAX_SYMBOL;
 use crate::source::Source;
 
 /// A text that is an array of symbols. The places are the indices.
@@ -22,11 +24,11 @@ pub struct ArraySource<'a> {
 fn check(numbers: &[u32]) -> Result<(), Fault>
     ensures { λ r. ⌜ elim r [ Ok _ ↦ Readable (now (numbers .entry)) | Err f ↦ Refused (now (numbers .entry)) (told f) ] ⌝ }
 {
-    if numbers.len() > 1048576 {
+    if numbers.len() > MAX_LENGTH {
         return Err(Fault::TextTooLong);
     }
     for (i, x) in numbers.iter().enumerate() {
-        if *x > 1114111 {
+        if *x > MAX_SYMBOL {
             return Err(Fault::BadSymbol(i));
         }
     }
@@ -47,7 +49,10 @@ impl<'a> ArraySource<'a> {
     /// Takes up a text, from its start. Refuses more than 1,048,576 numbers, and then the first
     /// above 1,114,111; the source is then as it was.
     pub fn open(&mut self, numbers: &'a [u32]) -> Result<(), Fault>
-        ensures { λ r. ⌜ elim r [ Ok _ ↦ Readable (now (numbers .entry)) × (ofNumbers (now (now (self .exit) .numbers)) (now (self .exit) .at) ≡ ofNumbers (now (numbers .entry)) 0) | Err f ↦ Refused (now (numbers .entry)) (told f) × (now (self .exit) ≡ now (self .entry)) ] ⌝ }
+        ensures { λ r. ⌜ elim r [
+          | Ok _ ↦ Readable (now (numbers .entry)) × (ofNumbers (now (now (self .exit) .numbers)) (now (self .exit) .at) ≡ ofNumbers (now (numbers .entry)) 0)
+          | Err f ↦ Refused (now (numbers .entry)) (told f) × (now (self .exit) ≡ now (self .entry))
+        ] ⌝ }
     {
         check(numbers)?;
         self.numbers = numbers;

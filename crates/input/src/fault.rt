@@ -2,6 +2,7 @@ ghost use mathlib.Core.Path.{_≡_};
 ghost use Rattle.std.specs.declared.option.Option.the-variants.{Some};
 ghost use Rattle.input.specs.Faults.{notice, told};
 ghost use Rattle.input.specs.Words.{lineOf, nameOf, wordsOf};
+use crate::source::MAX_LENGTH;
 use std::fmt;
 
 /// The part of the work that a fault is about.
@@ -65,7 +66,7 @@ impl Fault {
             Fault::GoesRound(place) => Notice::of(5, place, Part::Table),
             Fault::NoSuchMode(place) => Notice::of(6, place, Part::Run),
             Fault::BadSymbol(place) => Notice::of(7, place, Part::Text),
-            Fault::TextTooLong => Notice::of(8, 1048576, Part::Text),
+            Fault::TextTooLong => Notice::of(8, MAX_LENGTH, Part::Text),
             Fault::JudgeAtEnd(place) => Notice::of(9, place, Part::Run),
             Fault::SetFull(place) => Notice::of(10, place, Part::Run),
             Fault::ReturnsFull(place) => Notice::of(11, place, Part::Run),

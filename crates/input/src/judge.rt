@@ -2,7 +2,6 @@ ghost use mathlib.Core.Path.{_≡_};
 ghost use mathlib.Core.Bool.{Bool, true, false, cond};
 ghost use Prim.Native.Nat.{ℕ};
 ghost use lib.Dec.{eqb, ltb};
-ghost use lib.ListN.{getD, set, length};
 ghost use Rattle.input.specs.Judges.{seated};
 ghost use Rattle.input.specs.declared.judge.Question.{Question as Asked};
 

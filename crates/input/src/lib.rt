@@ -26,6 +26,8 @@ pub use judge::OpenJudge;
 pub use judge::Question;
 pub use judge::SeatJudge;
 pub use judge::SeatsAreJudge;
+pub use source::MAX_LENGTH;
+pub use source::MAX_SYMBOL;
 pub use source::Source;
 pub use utf8::Utf8IsSource;
 pub use utf8::Utf8Source;

@@ -1,6 +1,12 @@
 ghost use mathlib.Core.Path.{_≡_};
 ghost use Rattle.input.specs.Text.{Text, Good, coming, more, stepped, placeOf, Sought};
 
+/// The most numbers or bytes that a text may have.
+pub const MAX_LENGTH: usize = 1_048_576;
+
+/// The largest symbol; the smallest is 0.
+pub const MAX_SYMBOL: u32 = 1_114_111;
+
 /// A text that is read symbol by symbol. Its symbols are numbers from 0 to 1,114,111, each with a place.
 pub trait Source {
     /// The whole text, and how many of its symbols are read.

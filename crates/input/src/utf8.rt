@@ -7,6 +7,7 @@ ghost use Rattle.input.specs.Places.{good-bytes};
 ghost use Rattle.input.specs.Text.{emptyText};
 ghost use Rattle.input.specs.Utf8.{Readable, Refused, Stands, ofBytes, textOf};
 use crate::fault::Fault;
+use crate::source::MAX_LENGTH;
 use crate::source::Source;
 
 mod sequence;
@@ -29,7 +30,7 @@ pub struct Utf8Source<'a> {
 fn check(bytes: &[u8]) -> Result<(), Fault>
     ensures { λ r. ⌜ elim r [ Ok _ ↦ Readable (now (bytes .entry)) | Err f ↦ Refused (now (bytes .entry)) (told f) ] ⌝ }
 {
-    if bytes.len() > 1048576 {
+    if bytes.len() > MAX_LENGTH {
         return Err(Fault::TextTooLong);
     }
     let mut at = 0;
@@ -54,7 +55,10 @@ impl<'a> Utf8Source<'a> {
     /// Takes up a text, from its start. Refuses more than 1,048,576 bytes, and then the first place
     /// where a well-formed sequence should begin and none does; the source is then as it was.
     pub fn open(&mut self, bytes: &'a [u8]) -> Result<(), Fault>
-        ensures opens { λ r. ⌜ elim r [ Ok _ ↦ Readable (now (bytes .entry)) × (ofBytes (now (now (self .exit) .bytes)) (now (self .exit) .at) ≡ textOf (now (bytes .entry))) | Err f ↦ Refused (now (bytes .entry)) (told f) × (now (self .exit) ≡ now (self .entry)) ] ⌝ }
+        ensures opens { λ r. ⌜ elim r [
+          | Ok _ ↦ Readable (now (bytes .entry)) × (ofBytes (now (now (self .exit) .bytes)) (now (self .exit) .at) ≡ textOf (now (bytes .entry)))
+          | Err f ↦ Refused (now (bytes .entry)) (told f) × (now (self .exit) ≡ now (self .entry))
+        ] ⌝ }
         ensures agrees { λ r. ⌜ Agrees (now (bytes .entry)) r ⌝ }
     {
         check(bytes)?;

@@ -1,4 +1,4 @@
-use mathlib.Core.Path.{_≡_, refl, sym, ap, _∙_}
+use mathlib.Core.Path.{_≡_, sym, ap, _∙_}
 use mathlib.Core.Logic.{inr}
 use Prim.Native.Nat.{ℕ, _+_, _-_, _≤_, _<_}
 use native.Mathlib.Omega.{arith}
@@ -21,7 +21,7 @@ returns-then-size-eq0 c =
     let l = c .loop-at-test .taken in
     let none : sizeAt bs at ≡ 0 = omega arith in
     let stops : stopOf bs ≡ at = sym (sym (stop-none bs (length bs - at) at (omega arith) none) ∙ c .loop-at .inv .1) in
-    inr (record { few = c .if-bytes-gt1048576 .left; inside = omega arith; tells = ap (λ (p : ℕ). notice 7 p TextPart) (sym stops) })
+    inr (record { few = c .if-bytes-gt-MAX-LENGTH .left; inside = omega arith; tells = ap (λ (p : ℕ). notice 7 p TextPart) (sym stops) })
 
 pub add-at : need.add-at
 add-at c =
@@ -44,4 +44,4 @@ loop-at-again c =
 pub returns : need.returns
 returns c =
     let bs = c .args .bytes .now in
-    (c .if-bytes-gt1048576 .left, sym (c .loop-at .inv .1) ∙ stop-end bs (c .loop-at .at) (c .loop-at-test .left) ∙ omega arith)
+    (c .if-bytes-gt-MAX-LENGTH .left, sym (c .loop-at .inv .1) ∙ stop-end bs (c .loop-at .at) (c .loop-at-test .left) ∙ omega arith)

@@ -11,10 +11,10 @@ use lib.ListN.{length, getD}
 use Rattle.std.specs.declared.option.Option.{Option}
 use Rattle.std.specs.declared.option.Option.the-variants.{Some, None}
 use Rattle.std.proofs.shelf.Lists.{getD-past, length-map}
-use Rattle.std.proofs.shelf.Tests.{cases-lt, both-ways, lt-ltb, le-ltb, ltb-true, ltb-false}
+use Rattle.std.proofs.shelf.Tests.{cases-lt, lt-ltb, le-ltb, ltb-true, ltb-false}
 use Rattle.input.specs.Text.{readTo, more, coming, stepped, Sought}
-use Rattle.input.specs.Utf8.{tail, sizeAt, symbolAt, placesOf, WellFormed, before, ofBytes, Stands, readAt}
-use Rattle.input.specs.Rows.{within-says, tail-yes, lead-at, tail-inside, size-inside, symbolAt-small}
+use Rattle.input.specs.Utf8.{sizeAt, symbolAt, placesOf, WellFormed, before, ofBytes, Stands, readAt}
+use Rattle.input.specs.Rows.{Tail, lead-at, tail-inside, size-inside, symbolAt-small}
 use Rattle.input.specs.Places.{up-at, up-places, before-le, chain-places, chain-next}
 use Rattle.input.proofs.Reading.{coming-symbol, coming-end, stepped-more, stepped-end}
 use Rattle.input.proofs.Standing.{before-member, before-end, begins-at, stand-lt, stand-ge, stand-size, stand-symbol, stand-next}
@@ -94,26 +94,25 @@ module _ (bs : List ℕ) (place : ℕ) where
   pub not-past : (at : ℕ) → length bs < place → Sought (ofBytes bs at) place false (ofBytes bs at)
   not-past at h = ((λ k _ e. seek-past k h e), refl)
 
-  seek-inside : (k : ℕ) → WellFormed bs → tail (getD bs place 0) ≡ true → getD (placesOf bs) k (length bs) ≡ place → ⊥
+  seek-inside : (k : ℕ) → WellFormed bs → Tail (getD bs place 0) → getD (placesOf bs) k (length bs) ≡ place → ⊥
   seek-inside k w t e =
-      let says = within-says 128 191 (getD bs place 0) t in
       ⊎-elim
-      (λ l. lead-at bs place (subst (λ (x : ℕ). 0 < sizeAt bs x) e (chain-next bs (placesOf bs) k (chain-places bs w .1) l .0)) says)
-      (λ l. omega (arith, getD-past (placesOf bs) k (length bs) l, tail-inside bs place says))
+      (λ l. lead-at bs place (subst (λ (x : ℕ). 0 < sizeAt bs x) e (chain-next bs (placesOf bs) k (chain-places bs w .1) l .0)) t)
+      (λ l. omega (arith, getD-past (placesOf bs) k (length bs) l, tail-inside bs place t))
       (cases-lt k (length (placesOf bs)))
 
-  pub not-inside : (at : ℕ) → WellFormed bs → tail (getD bs place 0) ≡ true → Sought (ofBytes bs at) place false (ofBytes bs at)
+  pub not-inside : (at : ℕ) → WellFormed bs → Tail (getD bs place 0) → Sought (ofBytes bs at) place false (ofBytes bs at)
   not-inside at w t = ((λ k _ e. seek-inside k w t e), refl)
 
-  pub seek-stands : WellFormed bs → place ≤ length bs → tail (getD bs place 0) ≡ false → Stands bs place
+  pub seek-stands : WellFormed bs → place ≤ length bs → (Tail (getD bs place 0) → ⊥) → Stands bs place
   seek-stands w h f =
       let ps = placesOf bs in
       ⊎-elim
-      (λ l. before-member 0 (length bs) place (length bs) ps (up-places bs) (begins-at bs place w l (λ t. both-ways _ f (tail-yes (getD bs place 0) t))) .1)
+      (λ l. before-member 0 (length bs) place (length bs) ps (up-places bs) (begins-at bs place w l f) .1)
       (λ l. let e : place ≡ length bs = omega arith in
       let b : before place ps ≡ length ps = ap (λ (x : ℕ). before x ps) e ∙ before-end 0 (length bs) ps (up-places bs) in
       ap (λ (k : ℕ). getD ps k (length bs)) b ∙ getD-past ps (length ps) (length bs) (omega arith) ∙ sym e)
       (cases-lt place (length bs))
 
-  pub found : (at : ℕ) → WellFormed bs → place ≤ length bs → tail (getD bs place 0) ≡ false → Sought (ofBytes bs at) place true (ofBytes bs place)
+  pub found : (at : ℕ) → WellFormed bs → place ≤ length bs → (Tail (getD bs place 0) → ⊥) → Sought (ofBytes bs at) place true (ofBytes bs place)
   found at w h f = (before place (placesOf bs), (before-count bs place, seek-stands w h f, refl))

@@ -86,7 +86,7 @@ miss lo hi a others n m out = cond-false {A = ℕ} _ n m (and-left _ others (wit
 hit : (lo hi a : ℕ) (others : Bool) (n m : ℕ) → lo ≤ a → a ≤ hi → others ≡ true → cond (within lo hi a && others) n m ≡ n
 hit lo hi a others n m l h t = cond-true {A = ℕ} _ n m (and-from _ others (within-yes lo hi a l h) t)
 
-pub tail-yes : (b : ℕ) → Tail b → tail b ≡ true
+tail-yes : (b : ℕ) → Tail b → tail b ≡ true
 tail-yes b t = within-yes 128 191 b (t .0) (t .1)
 
 size-one : (a b c d : ℕ) → a ≤ 127 → sizeOf a b c d ≡ 1

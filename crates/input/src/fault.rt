@@ -13,23 +13,38 @@ pub enum Part {
     Run,
 }
 
-/// Why a call was refused. The number that a case holds is the place it names.
+/// Why a call was refused, by number. What a case holds is the place it names: the text's, where nothing else is said.
 #[derive(Clone, Copy, PartialEq, Eq, Debug)]
 pub enum Fault {
+    /// 1: a table ends before its sections are complete; the place is its length.
     ImageEndsEarly(usize),
+    /// 2: a count of a table is outside its limits; the place is its index.
     CountOutOfRange(usize),
+    /// 3: numbers are left over after a table; the place is the index of the first.
     NumbersLeftOver(usize),
+    /// 4: a record of a table breaks a rule; the place is the index where it starts.
     RecordBreaksRule(usize),
+    /// 5: a table goes round silently; the place is the lowest state that does.
     GoesRound(usize),
+    /// 6: there is no such mode.
     NoSuchMode(usize),
+    /// 7: a number is no symbol, or bytes are not well-formed; the place is where the first such starts.
     BadSymbol(usize),
+    /// 8: a text has more than 1,048,576 numbers or bytes; the place is 1,048,576.
     TextTooLong,
+    /// 9: a judge would have to be asked past the end of the text.
     JudgeAtEnd(usize),
+    /// 10: a set would get a 257th configuration.
     SetFull(usize),
+    /// 11: a configuration would get a 17th return state.
     ReturnsFull(usize),
+    /// 12: a configuration would get a ninth action.
     ActionsFull(usize),
+    /// 13: the line or the column is above 2,000,000,000.
     PositionTooLarge(usize),
+    /// 14: the first work list has fewer than 256 entries.
     FirstListShort(usize),
+    /// 15: the second work list has fewer than 256 entries.
     SecondListShort(usize),
 }
 

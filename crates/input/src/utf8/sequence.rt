@@ -2,12 +2,13 @@ ghost use mathlib.Core.Path.{_≡_};
 ghost use mathlib.Core.Bool.{true};
 ghost use Prim.Native.Nat.{ℕ, _+_, _%_, _<_, _≤_};
 ghost use lib.ListN.{length, getD};
-ghost use Rattle.input.specs.Rows.{Follows};
-ghost use Rattle.input.specs.Utf8.{Readable, Stands, readAt, sizeAt, sizeOf, tail};
+ghost use Rattle.input.specs.Rows.{Follows, Tail};
+ghost use Rattle.input.specs.Utf8.{Readable, Stands, readAt, sizeAt, sizeOf};
 
 // Does the byte go on with a sequence?
 pub fn is_tail(b: u8) -> bool
-    ensures { λ r. ⌜ r ≡ tail b ⌝ }
+    ensures yes { λ r. ⌜ (r ≡ true → Tail b) ⌝ }
+    ensures all { λ r. ⌜ (Tail b → r ≡ true) ⌝ }
 {
     (0x80 <= b) & (b <= 0xbf)
 }

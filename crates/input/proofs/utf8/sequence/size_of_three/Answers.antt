@@ -1,7 +1,7 @@
-use mathlib.Core.Path.{refl, sym, _∙_}
+use mathlib.Core.Path.{refl, sym}
 use native.Mathlib.Omega.{arith}
 use Rattle.std.proofs.shelf.Tests.{and-parts, and-from, both-ways}
-use Rattle.input.specs.Rows.{of-three, shape, sized, within-says, tail-yes}
+use Rattle.input.specs.Rows.{of-three, shape, sized}
 use Rattle.input.proofs.Sequences.{is-three, size-zero}
 use Rattle.input.proofs.utf8.sequence.size_of_three.Needs as need
 
@@ -9,7 +9,7 @@ pub returns-then-may-follow-is-tail : need.returns-then-may-follow-is-tail
 returns-then-may-follow-is-tail c fourth =
     let p = and-parts _ _ (c .if-may-follow-is-tail .taken) in
     sym (sized 3 (c .args .a) (c .args .b) (c .args .c) fourth
-    (of-three refl (c .pre .0) (c .pre .1) (c .may-follow .ensures .yes (p .0)) (within-says 128 191 (c .args .c) (sym (c .is-tail .ensures) ∙ p .1))) (omega arith))
+    (of-three refl (c .pre .0) (c .pre .1) (c .may-follow .ensures .yes (p .0)) (c .is-tail .ensures .yes (p .1))) (omega arith))
 
 pub returns-else-may-follow-is-tail : need.returns-else-may-follow-is-tail
 returns-else-may-follow-is-tail c fourth =
@@ -17,4 +17,4 @@ returns-else-may-follow-is-tail c fourth =
     let b = c .args .b in
     size-zero a b (c .args .c) fourth (λ h.
     let s = is-three _ a b (c .args .c) fourth (shape a b (c .args .c) fourth) h (c .pre .0) (c .pre .1) in
-    both-ways _ (c .if-may-follow-is-tail .left) (and-from _ _ (c .may-follow .ensures .all (s .1)) (c .is-tail .ensures ∙ tail-yes (c .args .c) (s .2))))
+    both-ways _ (c .if-may-follow-is-tail .left) (and-from _ _ (c .may-follow .ensures .all (s .1)) (c .is-tail .ensures .all (s .2))))

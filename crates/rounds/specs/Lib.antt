@@ -1,0 +1,4 @@
+pub mod Rounds
+pub mod Marks
+pub mod Search
+pub mod Rank

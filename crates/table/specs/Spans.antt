@@ -4,6 +4,7 @@ use mathlib.Core.List.{List, [], _∷_}
 use Prim.Native.Nat.{ℕ, _+_, _*_}
 use Rattle.table.specs.declared.sections.Form.{Form}
 use Rattle.table.specs.declared.sections.Sections.{Sections}
+use Rattle.table.specs.declared.sections.Span.{Span}
 
 abbrev form : ℕ → ℕ → ℕ → Form
 form width least most = record { width = width; least = least; most = most }
@@ -15,12 +16,16 @@ forms = form 5 1 4096 ∷ form 4 0 16384 ∷ form 2 0 8192 ∷ form 1 1 64 ∷ f
 abbrev pub countsOf : Sections → List ℕ
 countsOf s = s .states .count ∷ s .transitions .count ∷ s .intervals .count ∷ s .modes .count ∷ s .rules .count ∷ s .actions .count ∷ []
 
--- each section's records begin after its count, which stands after the records before it
+-- the records of a section, of so many numbers each, begin after the count at an index, and end after the last
+abbrev pub Lies : Span → ℕ → ℕ → Type 0
+Lies span at width = (span .start ≡ at + 1) × (span .end ≡ span .start + width * span .count)
+
+-- the count of the first section stands at 0, and that of each other after the records before it
 abbrev pub Placed : Sections → Type 0
 Placed s =
-    (s .states .start ≡ 1)
-    × (s .transitions .start ≡ s .states .start + 5 * s .states .count + 1)
-    × (s .intervals .start ≡ s .transitions .start + 4 * s .transitions .count + 1)
-    × (s .modes .start ≡ s .intervals .start + 2 * s .intervals .count + 1)
-    × (s .rules .start ≡ s .modes .start + 1 * s .modes .count + 1)
-    × (s .actions .start ≡ s .rules .start + 3 * s .rules .count + 1)
+    Lies (s .states) 0 5
+    × Lies (s .transitions) (s .states .end) 4
+    × Lies (s .intervals) (s .transitions .end) 2
+    × Lies (s .modes) (s .intervals .end) 1
+    × Lies (s .rules) (s .modes .end) 3
+    × Lies (s .actions) (s .rules .end) 2

@@ -1,4 +1,6 @@
 //! Audits a recording: cuts it into lines, walks each line as a text, and counts.
+#![tactic(auto)]
+
 mod lines;
 mod report;
 mod tasks;

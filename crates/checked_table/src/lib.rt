@@ -1,4 +1,6 @@
 //! Checked tables: what an image means, its check, and access to its records.
+#![tactic(auto)]
+
 mod checking;
 mod counts;
 mod decoding;

@@ -1,4 +1,6 @@
 //! Reads the text of a file of decimal numbers into 32-bit signed numbers.
+#![tactic(auto)]
+
 mod error;
 mod numbers;
 #[cfg(test)]

@@ -1,5 +1,7 @@
 //! The image of a table, a slice of signed 32-bit numbers: where its sections are, and whether each record keeps the
 //! rules of its section.
+#![tactic(auto)]
+
 mod breaking;
 mod deciding;
 mod raw;

@@ -1,3 +1,5 @@
+#![tactic(auto)]
+
 // Tests of the crate `input`. It has nothing for other crates.
 #[cfg(test)]
 mod arrays;

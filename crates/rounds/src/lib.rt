@@ -1,5 +1,7 @@
 //! Whether an automaton with calls can go round silently, without reading; and where it cannot, a
 //! rank of its states, and a measure that every silent step takes down.
+#![tactic(auto)]
+
 mod automaton;
 mod exits;
 mod laws;

@@ -1,4 +1,6 @@
 //! The score line's program: audits recordings, and measures how fast a text is walked.
+#![tactic(auto)]
+
 mod files;
 #[cfg(test)]
 mod tests;

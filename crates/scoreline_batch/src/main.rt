@@ -1,4 +1,6 @@
 //! The score line's program: audits recordings, measures how fast a text is walked, and carries out batches of commands.
+#![tactic(auto)]
+
 mod batches;
 mod checks;
 mod commands;

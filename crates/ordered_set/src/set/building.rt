@@ -40,8 +40,8 @@ impl<'a, T: Element + Drop> OrderedSet<'a, T> {
 
     /// Appends `x`, unless an equal member is there or there is no room: then nothing changes.
     pub fn add(&mut self, x: T) -> Added
-        ensures answers { result ≡ answer alike (room self.old) (members self.old) x }
-        ensures adds { members self.new ≡ added alike (room self.old) (members self.old) x }
+        ensures answers { result ≡ answer T.alike (room self.old) (members self.old) x }
+        ensures adds { members self.new ≡ added T.alike (room self.old) (members self.old) x }
         ensures means { Outcome x (room self.old) (members self.old) (members self.new) result }
         ensures room { room self.new ≡ room self.old }
         ensures holds { slice self.new ≡ written result (slice self.old) x }

@@ -39,7 +39,7 @@ impl<T: Element> OrderedSet<'_, T> {
 
     /// The index of the member that is equal to `x`, where there is one.
     pub fn position_of(&self, x: &T) -> Option<usize>
-        ensures answers { result ≡ position alike x.now (members self.now) }
+        ensures answers { result ≡ position T.alike x.now (members self.now) }
         ensures means { Sought x.now (members self.now) result }
     {
         let members = self.as_slice();

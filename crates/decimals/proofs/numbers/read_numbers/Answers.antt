@@ -7,6 +7,6 @@ use Rattle.decimals.proofs.numbers.read_numbers.Goals as goal
 pub loop-word-preserved : goal.loop-word-preserved
 loop-word-preserved c =
     let word = c.in-Some.word in
-    numbers_more (vec_items c.loop-word.numbers) (vec_items c.push.new.self) c.in-ok-number-of.field-0 (found word.line word.bytes.now)
-    (left c.loop-word.words) (left c.next-word.new.self) (numbers_in (words_of c.args.text.now)) (search rules)
-    c.in-ok-push.ensures.items c.in-ok-number-of.ensures c.in-Some.ensures.words c.loop-word.invariant
+    numbers_more (vec_items c.loop-word.numbers) (vec_items c.push.new.self) c.in_ok-number_of.field-0 (found word.line word.bytes.now)
+    (left c.loop-word.words) (left c.next_word.new.self) (numbers_in (words_of c.args.text.now)) (search rules)
+    c.in_ok-push.ensures.items c.in_ok-number_of.ensures c.in-Some.ensures.words c.loop-word.invariant

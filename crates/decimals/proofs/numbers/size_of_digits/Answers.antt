@@ -16,7 +16,7 @@ loop-digit-preserved c =
     let l = c.loop-digit in
     let ds = c.args.digits.now in
     let more = c.loop-digit-test.true in
-    (digits_more ds l.digit-index more (sym c.if-not-is-ascii-digit.ensures.value) ∙ l.invariant.0, c.min-size.ensures ∙ size_more ds l.digit-index more l.size c.from.result c.from.ensures l.invariant.1)
+    (digits_more ds l.digit-index more (sym c.if-not-is_ascii_digit.ensures.value) ∙ l.invariant.0, c.min-size.ensures ∙ size_more ds l.digit-index more l.size c.from.result c.from.ensures l.invariant.1)
 
 pub returns : goal.returns
 returns c =

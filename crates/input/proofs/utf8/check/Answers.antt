@@ -16,7 +16,7 @@ returns-then-size-eq0 c =
     let l = c.loop-at-test.true in
     let none : size_at bs at ≡ 0 = omega arith in
     let stops : stop_of bs ≡ at = sym (sym (stop_none bs (length bs - at) at (omega arith) none) ∙ c.loop-at.invariant.1) in
-    inr (record { few = c.if-bytes-gt-MAX-LENGTH.false; inside = omega arith; tells = ap (λ (p : ℕ). notice 7 p TextPart) (sym stops) })
+    inr (record { few = c.if-bytes-gt-MAX_LENGTH.false; inside = omega arith; tells = ap (λ (p : ℕ). notice 7 p TextPart) (sym stops) })
 
 pub overflow-add-at : goal.overflow-add-at
 overflow-add-at c =
@@ -29,7 +29,7 @@ loop-at-preserved c =
     let bs = c.args.bytes.now in
     let at : ℕ = c.loop-at.at in
     let l = c.loop-at-test.true in
-    let e : c.size-at-size.result ≡ size_at bs at = c.size-at-size.ensures in
+    let e : c.size_at-size.result ≡ size_at bs at = c.size_at-size.ensures in
     let some : 0 < size_at bs at = omega (arith, c.if-size-eq0.false) in
     let next : ℕ → ℕ = λ n. stop_from bs (length bs - (at + n)) 0 (at + n) in (
       omega (arith, size_inside bs at l),
@@ -39,4 +39,4 @@ loop-at-preserved c =
 pub returns : goal.returns
 returns c =
     let bs = c.args.bytes.now in
-    (c.if-bytes-gt-MAX-LENGTH.false, sym c.loop-at.invariant.1 ∙ stop_end bs c.loop-at.at c.loop-at-test.false ∙ omega arith)
+    (c.if-bytes-gt-MAX_LENGTH.false, sym c.loop-at.invariant.1 ∙ stop_end bs c.loop-at.at c.loop-at-test.false ∙ omega arith)

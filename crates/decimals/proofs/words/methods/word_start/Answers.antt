@@ -3,7 +3,7 @@ use Rattle.std.proofs.lemmas.List.{at_drop_all}
 use Rattle.decimals.specs.Words.{words_from}
 use Rattle.decimals.proofs.Cuts.{Same, over_feed, over_hash, over_comment, over_white}
 use Rattle.decimals.proofs.words.methods.word_start.Goals as goal
-use Rattle.decimals.proofs.words.methods.word_start.Goals.{then-byte-eq-FEED, else-byte-eq-FEED+then-byte-eq-HASH, else-byte-eq-FEED+else-byte-eq-HASH+else-not-comment, else-not-comment-via-then-not-comment+else-not-is-white, else-not-comment-via-else-not-comment}
+use Rattle.decimals.proofs.words.methods.word_start.Goals.{then-byte-eq-FEED, else-byte-eq-FEED+then-byte-eq-HASH, else-byte-eq-FEED+else-byte-eq-HASH+else-not-comment, else-not-comment-via-then-not-comment+else-not-is_white, else-not-comment-via-else-not-comment}
 
 -- one turn of the loop
 same : (c : goal.Joined-byte-eq-FEED) → Same c.args.text.now c.loop-at.at c.loop-at-test.true c.loop-at.comment c.if-byte-eq-FEED.comment c.loop-at.feeds c.if-byte-eq-FEED.feeds
@@ -16,9 +16,9 @@ same c =
       | then-byte-eq-FEED w ↦ over_feed text s.at more s.comment t.comment s.feeds t.feeds w.comment-is w.feeds-is w.if-byte-eq-FEED.true
       | else-byte-eq-FEED+then-byte-eq-HASH w ↦ over_hash text s.at more s.comment t.comment s.feeds t.feeds w.comment-is w.feeds-is w.if-byte-eq-HASH.true
       | else-byte-eq-FEED+else-byte-eq-HASH+else-not-comment w ↦ elim w.else-not-comment.branch [
-        | else-not-comment-via-then-not-comment+else-not-is-white w' ↦
+        | else-not-comment-via-then-not-comment+else-not-is_white w' ↦
             over_white text s.at more s.comment t.comment s.feeds t.feeds w.comment-is w.feeds-is w'.if-not-comment.true
-            w.if-byte-eq-FEED.false w.if-byte-eq-HASH.false (sym w'.if-not-is-white.ensures)
+            w.if-byte-eq-FEED.false w.if-byte-eq-HASH.false (sym w'.if-not-is_white.ensures)
         | else-not-comment-via-else-not-comment w' ↦
             over_comment text s.at more s.comment t.comment s.feeds t.feeds w.comment-is w.feeds-is w'.if-not-comment.false w.if-byte-eq-FEED.false
       ]

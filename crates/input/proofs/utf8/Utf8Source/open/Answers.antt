@@ -19,5 +19,5 @@ invariant-of-self c = let readable = c.in-ok-check.ensures in (readable, (stand_
 pub returns : goal.returns
 returns c =
     let bs = c.args.bytes.now in
-    let readable = c.in-ok-check.ensures in
+    let readable = c.in_ok-check.ensures in
     record { opens = (readable, ap (read_to (text_of bs)) (before_zero (places_of bs))); agrees = formed_utf8 bs readable.1 }

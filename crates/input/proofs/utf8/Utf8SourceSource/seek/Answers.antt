@@ -22,5 +22,5 @@ invariant-of-self c =
 pub returns : goal.returns
 returns c =
     let s = c.args.self.now in
-    let t : Tail (get_or s.bytes.now c.args.place 0) → ⊥ = λ t. both_ways _ c.if-is-tail.false (c.is-tail.ensures.all (subst Tail (sym c.byte-or-zero.ensures) t)) in
+    let t : Tail (get_or s.bytes.now c.args.place 0) → ⊥ = λ t. both_ways _ c.if-is_tail.false (c.is_tail.ensures.all (subst Tail (sym c.byte_or_zero.ensures) t)) in
     found s.bytes.now c.args.place s.at s.readable.1 c.if-place-self.false t

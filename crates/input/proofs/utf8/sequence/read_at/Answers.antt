@@ -12,37 +12,37 @@ returns-then-at-bytes c = sym (cond-false _ _ _ (le-ltb c.args.at (length c.args
 pub returns-in-0 : goal.returns-in-0
 returns-in-0 c =
     let l = c.if-at-bytes.false in
-    let s = one_at c.args.bytes.now c.args.at _ c.requires.text c.requires.place l (omega arith) c.leading-ones.ensures c.in-0.is in
+    let s = one_at c.args.bytes.now c.args.at _ c.requires.text c.requires.place l (omega arith) c.leading_ones.ensures c.in-0.is in
     read_is c.args.bytes.now c.args.at _ 1 l s c.from-first.ensures
 
 pub bounds-bytes-at-in-2 : goal.bounds-bytes-at-in-2
 bounds-bytes-at-in-2 c =
     let l = c.if-at-bytes.false in
-    let s = two_at c.args.bytes.now c.args.at _ c.requires.text c.requires.place l (omega arith) c.leading-ones.ensures c.in-2.is in
+    let s = two_at c.args.bytes.now c.args.at _ c.requires.text c.requires.place l (omega arith) c.leading_ones.ensures c.in-2.is in
     byte_inside c.args.bytes.now c.args.at 2 1 l s.0 (omega arith)
 
 pub returns-in-2 : goal.returns-in-2
 returns-in-2 c =
     let l = c.if-at-bytes.false in
-    let s = two_at c.args.bytes.now c.args.at _ c.requires.text c.requires.place l (omega arith) c.leading-ones.ensures c.in-2.is in
+    let s = two_at c.args.bytes.now c.args.at _ c.requires.text c.requires.place l (omega arith) c.leading_ones.ensures c.in-2.is in
     read_is c.args.bytes.now c.args.at _ 2 l s.0 (omega arith)
 
 pub bounds-bytes-at-in-3 : goal.bounds-bytes-at-in-3
 bounds-bytes-at-in-3 c =
     let l = c.if-at-bytes.false in
-    let s = three_at c.args.bytes.now c.args.at _ c.requires.text c.requires.place l (omega arith) c.leading-ones.ensures c.in-3.is in
+    let s = three_at c.args.bytes.now c.args.at _ c.requires.text c.requires.place l (omega arith) c.leading_ones.ensures c.in-3.is in
     byte_inside c.args.bytes.now c.args.at 3 1 l s.0 (omega arith)
 
 pub bounds-bytes-at-in-3-2 : goal.bounds-bytes-at-in-3-2
 bounds-bytes-at-in-3-2 c =
     let l = c.if-at-bytes.false in
-    let s = three_at c.args.bytes.now c.args.at _ c.requires.text c.requires.place l (omega arith) c.leading-ones.ensures c.in-3.is in
+    let s = three_at c.args.bytes.now c.args.at _ c.requires.text c.requires.place l (omega arith) c.leading_ones.ensures c.in-3.is in
     byte_inside c.args.bytes.now c.args.at 3 2 l s.0 (omega arith)
 
 pub returns-in-3 : goal.returns-in-3
 returns-in-3 c =
     let l = c.if-at-bytes.false in
-    let s = three_at c.args.bytes.now c.args.at _ c.requires.text c.requires.place l (omega arith) c.leading-ones.ensures c.in-3.is in
+    let s = three_at c.args.bytes.now c.args.at _ c.requires.text c.requires.place l (omega arith) c.leading_ones.ensures c.in-3.is in
     read_is c.args.bytes.now c.args.at _ 3 l s.0 (omega arith)
 
 pub bounds-bytes-at-in-default : goal.bounds-bytes-at-in-default

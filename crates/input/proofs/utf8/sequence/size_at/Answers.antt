@@ -15,20 +15,20 @@ size-of-four-requires c = ones_4 _ _ (omega arith) c.leading-ones.ensures c.in-4
 
 pub returns-in-0 : goal.returns-in-0
 returns-in-0 c =
-    sym (sized_at c.args.bytes.now c.args.at 1 (of_one refl (ones_0 _ _ c.leading-ones.ensures c.in-0.is)) (omega arith))
+    sym (sized_at c.args.bytes.now c.args.at 1 (of_one refl (ones_0 _ _ c.leading_ones.ensures c.in-0.is)) (omega arith))
 
 pub returns-in-2 : goal.returns-in-2
 returns-in-2 c =
-    c.size-of-two.ensures _ _ ∙ size_is c.args.bytes.now c.args.at _ _ _ c.byte-or-zero.ensures refl refl
+    c.size_of_two.ensures _ _ ∙ size_is c.args.bytes.now c.args.at _ _ _ c.byte_or_zero.ensures refl refl
 
 pub returns-in-3 : goal.returns-in-3
 returns-in-3 c =
-    c.size-of-three.ensures _ ∙ size_is c.args.bytes.now c.args.at _ _ _ c.byte-or-zero-in-3.ensures c.byte-or-zero-in-3-2.ensures refl
+    c.size_of_three.ensures _ ∙ size_is c.args.bytes.now c.args.at _ _ _ c.byte_or_zero-in-3.ensures c.byte_or_zero-in-3-2.ensures refl
 
 pub returns-in-4 : goal.returns-in-4
 returns-in-4 c =
-    c.size-of-four.ensures
-    ∙ size_is c.args.bytes.now c.args.at _ _ _ c.byte-or-zero-in-4.ensures c.byte-or-zero-in-4-2.ensures c.byte-or-zero-in-4-3.ensures
+    c.size_of_four.ensures
+    ∙ size_is c.args.bytes.now c.args.at _ _ _ c.byte_or_zero-in-4.ensures c.byte_or_zero-in-4-2.ensures c.byte-or-zero-in-4-3.ensures
 
 pub returns-in-default : goal.returns-in-default
 returns-in-default c =

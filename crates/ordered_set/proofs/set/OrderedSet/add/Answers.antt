@@ -9,7 +9,7 @@ returns-then-at-self g c =
     let s = c.args.self.now in
     let count = length-take-le s.len s.items.now s.fits in
     let grown = take_more_set s.items.now s.len c.args.x c.if-at-self.true in
-    let missing = c.in-default.ensures in
+    let missing = c.in_default.ensures in
     search rules
 
 -- after the write, and before the count is raised

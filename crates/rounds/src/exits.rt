@@ -8,9 +8,9 @@ use crate::passing::Passing;
 
 // Does the transition lead to marked states alone?
 fn opens<T: Automaton>(automaton: &T, marks: &[bool], t: usize) -> bool
-    requires within { (t < (Graph automaton.now).transitions) × ((Graph automaton.now).target t < length marks.now) }
-    requires call { (Graph automaton.now).passing t ≡ Call → (Graph automaton.now).return_state t < length marks.now }
-    ensures { result ≡ opened (Graph automaton.now) marks.now t }
+    requires within { (t < (T.graph automaton.now).transitions) × ((T.graph automaton.now).target t < length marks.now) }
+    requires call { (T.graph automaton.now).passing t ≡ Call → (T.graph automaton.now).return_state t < length marks.now }
+    ensures { result ≡ opened (T.graph automaton.now) marks.now t }
 {
     match automaton.passing(t) {
         Passing::Silent => marks[automaton.target(t) as usize],
@@ -22,10 +22,10 @@ fn opens<T: Automaton>(automaton: &T, marks: &[bool], t: usize) -> bool
 
 // Is `s` due to be marked: is it a stop, or does a transition lead to marked states alone?
 fn is_due<T: Automaton>(automaton: &T, marks: &[bool], s: usize) -> bool
-    requires sound { Sound (Graph automaton.now) }
-    requires within { (s < (Graph automaton.now).states) × ((Graph automaton.now).states ≤ length marks.now) }
-    ensures yes { result ≡ true → Due (Graph automaton.now) marks.now s }
-    ensures none { result ≡ false → Due (Graph automaton.now) marks.now s → ⊥ }
+    requires sound { Sound (T.graph automaton.now) }
+    requires within { (s < (T.graph automaton.now).states) × ((T.graph automaton.now).states ≤ length marks.now) }
+    ensures yes { result ≡ true → Due (T.graph automaton.now) marks.now s }
+    ensures none { result ≡ false → Due (T.graph automaton.now) marks.now s → ⊥ }
 {
     if automaton.stops(s) {
         return true;
@@ -42,12 +42,12 @@ fn is_due<T: Automaton>(automaton: &T, marks: &[bool], s: usize) -> bool
 
 // Marks the states that are due, from the last to the first. Was there one?
 fn mark_more<T: Automaton>(automaton: &T, marks: &mut [bool]) -> bool
-    requires sound { Sound (Graph automaton.now) }
-    requires within { (Graph automaton.now).states ≤ length marks.old }
-    requires before { Justified (Graph automaton.now) marks.old }
-    ensures right { Justified (Graph automaton.now) marks.new }
+    requires sound { Sound (T.graph automaton.now) }
+    requires within { (T.graph automaton.now).states ≤ length marks.old }
+    requires before { Justified (T.graph automaton.now) marks.old }
+    ensures right { Justified (T.graph automaton.now) marks.new }
     ensures less { result ≡ true → unmarked marks.new < unmarked marks.old }
-    ensures all { result ≡ false → Closed (Graph automaton.now) marks.new }
+    ensures all { result ≡ false → Closed (T.graph automaton.now) marks.new }
 {
     let mut changed = false;
     let states = automaton.states();
@@ -62,10 +62,10 @@ fn mark_more<T: Automaton>(automaton: &T, marks: &mut [bool]) -> bool
 
 // Marks exactly the states that exit, where none is marked yet.
 pub fn mark_exits<T: Automaton>(automaton: &T, marks: &mut [bool])
-    requires sound { Sound (Graph automaton.now) }
-    requires within { (Graph automaton.now).states ≤ length marks.old }
+    requires sound { Sound (T.graph automaton.now) }
+    requires within { (T.graph automaton.now).states ≤ length marks.old }
     requires blank { (s : ℕ) → mark marks.old s ≡ false }
-    ensures { Exact (Graph automaton.now) marks.new }
+    ensures { Exact (T.graph automaton.now) marks.new }
 {
     while mark_more(automaton, marks) {}
 }

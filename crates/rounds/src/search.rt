@@ -19,10 +19,10 @@ fn visit<T: Automaton>(
     s: u16,
     q: u16,
 ) -> usize
-    requires held { Held (Graph automaton.now) s seen.old queue.old tail }
-    requires within { (s < 4096) × (q < (Graph automaton.now).states) }
-    requires reached { Reach (Graph automaton.now) q s }
-    ensures held { Held (Graph automaton.now) s seen.new queue.new result }
+    requires held { Held (T.graph automaton.now) s seen.old queue.old tail }
+    requires within { (s < 4096) × (q < (T.graph automaton.now).states) }
+    requires reached { Reach (T.graph automaton.now) q s }
+    ensures held { Held (T.graph automaton.now) s seen.new queue.new result }
     ensures grown { Grown s seen.old queue.old tail seen.new queue.new result }
     ensures met { s ≤ q → Met s seen.new q }
 {
@@ -45,14 +45,14 @@ fn follow<T: Automaton>(
     x: u16,
     t: usize,
 ) -> usize
-    requires sound { Sound (Graph automaton.now) }
-    requires exact { Exact (Graph automaton.now) exits.now }
-    requires held { Held (Graph automaton.now) s seen.old queue.old tail }
-    requires within { (s < 4096) × (((Graph automaton.now).states ≤ length exits.now) × (t < (Graph automaton.now).transitions)) }
-    requires from { (From (Graph automaton.now) s x) × (Of (Graph automaton.now) x t) }
-    ensures held { Held (Graph automaton.now) s seen.new queue.new result }
+    requires sound { Sound (T.graph automaton.now) }
+    requires exact { Exact (T.graph automaton.now) exits.now }
+    requires held { Held (T.graph automaton.now) s seen.old queue.old tail }
+    requires within { (s < 4096) × (((T.graph automaton.now).states ≤ length exits.now) × (t < (T.graph automaton.now).transitions)) }
+    requires from { (From (T.graph automaton.now) s x) × (Of (T.graph automaton.now) x t) }
+    ensures held { Held (T.graph automaton.now) s seen.new queue.new result }
     ensures grown { Grown s seen.old queue.old tail seen.new queue.new result }
-    ensures met { Follows (Graph automaton.now) s seen.new t }
+    ensures met { Follows (T.graph automaton.now) s seen.new t }
 {
     match automaton.passing(t) {
         Passing::Silent => visit(automaton, seen, queue, tail, s, automaton.target(t)),
@@ -79,14 +79,14 @@ fn expand<T: Automaton>(
     s: u16,
     x: u16,
 ) -> usize
-    requires sound { Sound (Graph automaton.now) }
-    requires exact { Exact (Graph automaton.now) exits.now }
-    requires held { Held (Graph automaton.now) s seen.old queue.old tail }
-    requires within { (s < 4096) × (((Graph automaton.now).states ≤ length exits.now) × (x < (Graph automaton.now).states)) }
-    requires from { From (Graph automaton.now) s x }
-    ensures held { Held (Graph automaton.now) s seen.new queue.new result }
+    requires sound { Sound (T.graph automaton.now) }
+    requires exact { Exact (T.graph automaton.now) exits.now }
+    requires held { Held (T.graph automaton.now) s seen.old queue.old tail }
+    requires within { (s < 4096) × (((T.graph automaton.now).states ≤ length exits.now) × (x < (T.graph automaton.now).states)) }
+    requires from { From (T.graph automaton.now) s x }
+    ensures held { Held (T.graph automaton.now) s seen.new queue.new result }
     ensures grown { Grown s seen.old queue.old tail seen.new queue.new result }
-    ensures met { Covers (Graph automaton.now) s seen.new x }
+    ensures met { Covers (T.graph automaton.now) s seen.new x }
 {
     let first = automaton.first(x as usize);
     let end = automaton.end(x as usize);
@@ -105,13 +105,13 @@ fn comes_back<T: Automaton>(
     queue: &mut [u16],
     s: u16,
 ) -> bool
-    requires sound { Sound (Graph automaton.now) }
-    requires exact { Exact (Graph automaton.now) exits.now }
-    requires within { (s < 4096) × ((s < (Graph automaton.now).states) × (((Graph automaton.now).states ≤ length exits.now) × (((Graph automaton.now).states ≤ length seen.old) × (length seen.old ≤ length queue.old)))) }
+    requires sound { Sound (T.graph automaton.now) }
+    requires exact { Exact (T.graph automaton.now) exits.now }
+    requires within { (s < 4096) × ((s < (T.graph automaton.now).states) × (((T.graph automaton.now).states ≤ length exits.now) × (((T.graph automaton.now).states ≤ length seen.old) × (length seen.old ≤ length queue.old)))) }
     requires fresh { (k : ℕ) → slice_index seen.old k ≤ s }
-    requires none { NoneBelow (Graph automaton.now) s }
-    ensures yes { result ≡ true → Cycle (Graph automaton.now) s }
-    ensures never { result ≡ false → Cycle (Graph automaton.now) s → ⊥ }
+    requires none { NoneBelow (T.graph automaton.now) s }
+    ensures yes { result ≡ true → Cycle (T.graph automaton.now) s }
+    ensures never { result ≡ false → Cycle (T.graph automaton.now) s → ⊥ }
     ensures fresh { (k : ℕ) → slice_index seen.new k ≤ s + 1 }
 {
     let mut tail = expand(automaton, exits, seen, queue, 0, s, s);
@@ -130,9 +130,9 @@ fn comes_back<T: Automaton>(
 /// The lowest state that goes round silently, if there is one: from it, with no return states, one or
 /// more silent steps lead back to it.
 pub fn goes_round<T: Automaton>(automaton: &T) -> Option<usize>
-    requires sound { Sound (Graph automaton.now) }
-    requires few { (Graph automaton.now).states ≤ 4096 }
-    ensures { MatchOption result (NoRound (Graph automaton.now)) (LowestRound (Graph automaton.now)) }
+    requires sound { Sound (T.graph automaton.now) }
+    requires few { (T.graph automaton.now).states ≤ 4096 }
+    ensures { MatchOption result (NoRound (T.graph automaton.now)) (LowestRound (T.graph automaton.now)) }
 {
     let mut exits = [false; MAX_STATES];
     mark_exits(automaton, &mut exits);

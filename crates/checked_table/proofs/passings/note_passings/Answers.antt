@@ -11,5 +11,5 @@ loop-t-preserved c =
     let a = atn_in c.args.records.now in
     let there : t < length c.loop-t.passings = omega (arith, c.counts-count.ensures, c.requires) in
     below_more _ _
-    (λ k h. let ne : k ≢ t = omega arith in get_or-set_other c.loop-t.passings t k c.passing-of.result Silent ne ∙ c.loop-t.invariant k h)
-    (get_or-set_same c.loop-t.passings t c.passing-of.result Silent there ∙ (c.passing-of.ensures ∙ ap (λ (x : Transition). passing_of a x.kind) c.transition-transition.ensures.is))
+    (λ k h. let ne : k ≢ t = omega arith in get_or-set_other c.loop-t.passings t k c.passing_of.result Silent ne ∙ c.loop-t.invariant k h)
+    (get_or-set_same c.loop-t.passings t c.passing_of.result Silent there ∙ (c.passing_of.ensures ∙ ap (λ (x : Transition). passing_of a x.kind) c.transition-transition.ensures.is))

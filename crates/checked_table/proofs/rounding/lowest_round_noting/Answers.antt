@@ -14,24 +14,24 @@ few_states r = omega (arith, states_are r, r.states)
 few_transitions : (r : Records) → length (atn_in r).transitions ≤ 16384
 few_transitions r = omega (arith, transitions_are r, r.transitions)
 
-pub note-passings-requires : goal.note-passings-requires
-note-passings-requires c =
+pub note_passings-requires : goal.note_passings-requires
+note_passings-requires c =
     let known : length (atn_in c.args.records.now).transitions ≤ length c.args.passings.now = omega (arith, few_transitions c.args.records.now, c.requires) in
     known
 
-pub invariant-of-goes-round : goal.invariant-of-goes-round
-invariant-of-goes-round c =
+pub invariant_of-goes_round : goal.invariant_of-goes_round
+invariant_of-goes_round c =
     let r = c.args.records.now in
-    let known : length (atn_in r).transitions ≤ length c.note-passings.new.passings = omega (arith, few_transitions r, c.requires, c.note-passings.auto.passings) in
-    ((few_states r, few_transitions r), (known, (c.note-passings.ensures, tt)))
+    let known : length (atn_in r).transitions ≤ length c.note_passings.new.passings = omega (arith, few_transitions r, c.requires, c.note_passings.auto.passings) in
+    ((few_states r, few_transitions r), (known, (c.note_passings.ensures, tt)))
 
-pub goes-round-requires : goal.goes-round-requires
-goes-round-requires c =
+pub goes_round-requires : goal.goes_round-requires
+goes_round-requires c =
     let r = c.args.records.now in
     record { sound = graph_sound (atn_in r) (formed r); few = few_states r }
 
 pub returns : goal.returns
-returns c = found c.goes-round.result c.goes-round.ensures
+returns c = found c.goes_round.result c.goes_round.ensures
   where
     r : Records
     r = c.args.records.now

@@ -6,10 +6,10 @@ use Rattle.decimals.specs.Numbers.{size_of}
 use Rattle.decimals.proofs.Values.{digits_more, digits_none, size_more}
 use Rattle.decimals.proofs.numbers.size_of_digits.Goals as goal
 
-pub returns-then-not-is-ascii-digit : goal.returns-then-not-is-ascii-digit
-returns-then-not-is-ascii-digit c =
+pub returns-then-not-is_ascii_digit : goal.returns-then-not-is_ascii_digit
+returns-then-not-is_ascii_digit c =
     let l = c.loop-digit in
-    and_right _ _ (sym l.invariant.0 ∙ digits_none c.args.digits.now l.digit-index c.loop-digit-test.true (sym c.if-not-is-ascii-digit.ensures.value))
+    and_right _ _ (sym l.invariant.0 ∙ digits_none c.args.digits.now l.digit-index c.loop-digit-test.true (sym c.if-not-is_ascii_digit.ensures.value))
 
 pub loop-digit-preserved : goal.loop-digit-preserved
 loop-digit-preserved c =

@@ -11,6 +11,6 @@ loop-k-preserved c =
     let image = c.args.image.now in
     let s = c.args.s in
     let k = c.loop-k.k in
-    let keeps : state_keeps image s k ≡ true = sym c.state-keeps.ensures ∙ c.if-not-state-keeps.false in
-    let end = counts_read image s k c.loop-k.earlier c.count-of-earlier.result c.raw-state-here.result c.loop-k.invariant.0 c.count-of-earlier.ensures.0 c.raw-state-here.ensures in
+    let keeps : state_keeps image s k ≡ true = sym c.state_keeps.ensures ∙ c.if-not-state_keeps.false in
+    let end = counts_read image s k c.loop-k.earlier c.count_of-earlier.result c.raw_state-here.result c.loop-k.invariant.0 c.count_of-earlier.ensures.0 c.raw_state-here.ensures in
     (end, omega (arith, end, state_end image s k keeps, c.requires), below_more _ _ c.loop-k.invariant.2 keeps)

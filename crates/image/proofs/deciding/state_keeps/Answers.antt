@@ -5,14 +5,14 @@ use Rattle.image.proofs.deciding.state_keeps.Goals as goal
 
 pub decides-requires : goal.decides-requires
 decides-requires c =
-    let keep = sym c.numbers-keep.ensures ∙ c.if-numbers-keep.true in
-    let end = numbers_span c.args.s c.raw-state-r.result c.args.earlier _ keep in
-    (c.requires.0, omega (arith, end.1, c.count-of-count.ensures.0))
+    let keep = sym c.numbers_keep.ensures ∙ c.if-numbers_keep.true in
+    let end = numbers_span c.args.s c.raw_state-r.result c.args.earlier _ keep in
+    (c.requires.0, omega (arith, end.1, c.count_of-count.ensures.0))
 
-pub returns-then-numbers-keep : goal.returns-then-numbers-keep
+pub returns-then-numbers_keep : goal.returns-then-numbers_keep
 unfolding state_keeps
-returns-then-numbers-keep c = search rules
+returns-then-numbers_keep c = search rules
 
-pub returns-else-numbers-keep : goal.returns-else-numbers-keep
+pub returns-else-numbers_keep : goal.returns-else-numbers_keep
 unfolding state_keeps
-returns-else-numbers-keep c = search rules
+returns-else-numbers_keep c = search rules

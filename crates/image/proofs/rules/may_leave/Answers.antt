@@ -9,14 +9,14 @@ leaves-requires c =
     let keep : fields_keep c.args.s r.kind r.p r.q ≡ true = search rules in
     (c.requires, λ call. (call_names c.args.s r.kind r.p r.q keep call).1)
 
-pub returns-then-fields-keep : goal.returns-then-fields-keep
-returns-then-fields-keep c =
+pub returns-then-fields_keep : goal.returns-then-fields_keep
+returns-then-fields_keep c =
     let r = c.args.r in
     let keep : fields_keep c.args.s r.kind r.p r.q ≡ true = search rules in
     simp keep c.leaves.ensures
 
-pub returns-else-fields-keep : goal.returns-else-fields-keep
-returns-else-fields-keep c =
+pub returns-else-fields_keep : goal.returns-else-fields_keep
+returns-else-fields_keep c =
     let r = c.args.r in
     let fail : fields_keep c.args.s r.kind r.p r.q ≡ false = search rules in
-    simp fail c.if-fields-keep.false
+    simp fail c.if-fields_keep.false

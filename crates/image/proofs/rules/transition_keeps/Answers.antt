@@ -8,5 +8,5 @@ unfolding transition_keeps
 returns c =
     let image = c.args.image.now in
     let s = c.args.s in
-    let here : c.may-leave.result ≡ may_leave image s (raw_state image s c.args.k) (raw_transition image s c.args.t) = search rules in
+    let here : c.may_leave.result ≡ may_leave image s (raw_state image s c.args.k) (raw_transition image s c.args.t) = search rules in
     here ∙ ap (λ (k : ℕ). may_leave image s (raw_state image s k) (raw_transition image s c.args.t)) (sym c.requires.1.1.1)

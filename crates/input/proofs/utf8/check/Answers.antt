@@ -18,9 +18,9 @@ returns-then-size-eq0 c =
     let stops : stop_of bs ≡ at = sym (sym (stop_none bs (length bs - at) at (omega arith) none) ∙ c.loop-at.invariant.1) in
     inr (record { few = c.if-bytes-gt-MAX_LENGTH.false; inside = omega arith; tells = ap (λ (p : ℕ). notice 7 p TextPart) (sym stops) })
 
-pub overflow-add-at : goal.overflow-add-at
-overflow-add-at c =
-    let h : c.loop-at.at + c.size-at-size.result ≤ length c.args.bytes.now =
+pub overflow_add-at : goal.overflow_add-at
+overflow_add-at c =
+    let h : c.loop-at.at + c.size_at-size.result ≤ length c.args.bytes.now =
     omega (arith, size_inside c.args.bytes.now c.loop-at.at c.loop-at-test.true) in
     search rules
 

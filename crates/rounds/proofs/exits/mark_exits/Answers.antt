@@ -4,4 +4,4 @@ use Rattle.rounds.proofs.exits.mark_exits.Goals as goal
 
 pub returns : goal.returns
 returns g c =
-    exact_from (g.T.Automaton.graph c.args.automaton.now) c.mark-more.new.marks c.requires.sound c.mark-more.ensures.right (c.loop-test.ensures.all refl)
+    exact_from (g.T.Automaton.graph c.args.automaton.now) c.mark_more.new.marks c.requires.sound c.mark_more.ensures.right (c.loop-test.ensures.all refl)

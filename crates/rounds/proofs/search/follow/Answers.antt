@@ -31,11 +31,11 @@ visit-requires-then-exits-target g c =
     let graph = g.T.Automaton.graph c.args.automaton.now in
     let marked : mark c.args.exits.now (graph.target c.args.t) ≡ true
     = subst (λ (y : ℕ). mark c.args.exits.now y ≡ true) c.target-target.ensures c.if-exits-target.true in
-    let edge : Edge graph c.args.x c.return-state.result
+    let edge : Edge graph c.args.x c.return_state.result
     = (
       c.args.t,
       c.requires.from.1,
-      over (sym c.in-Call.ensures) ((c.requires.exact (graph.target c.args.t)).0 marked) (sym c.return-state.ensures),
+      over (sym c.in-Call.ensures) ((c.requires.exact (graph.target c.args.t)).0 marked) (sym c.return_state.ensures),
     ) in
     record {
       held = c.visit-end.ensures.held;

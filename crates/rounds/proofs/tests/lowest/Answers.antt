@@ -25,15 +25,15 @@ of_below states s t h i =
     absurd (omega arith))
     (cases_lt s (length states))
 
-pub goes-round-requires : goal.goes-round-requires
-goes-round-requires c =
+pub goes_round-requires : goal.goes_round-requires
+goes_round-requires c =
     let states = c.args.states.now in
-    let fit = c.if-targets-fit.ensures refl in
+    let fit = c.if-targets_fit.ensures refl in
     record {
       sound = record {
         stops = stop_below states;
         owns = λ s t h. of_below states s t h.0 h.1;
-        spans = c.if-spans-fit.ensures refl;
+        spans = c.if-spans_fit.ensures refl;
         targets = λ t h. (fit t h).0;
         return_states = λ t h _. (fit t h).1;
       };

@@ -16,8 +16,8 @@ pub returns : goal.returns
 returns c =
     let s = c.args.self.now in
     let bs = s.recording.now in
-    let end = c.line-end-end.result in
-    let said = c.line-end-end.ensures in
+    let end = c.line_end-end.result in
+    let said = c.line_end-end.ensures in
     let next = c.if-end-recording.self in
     let more : s.at < length bs = omega (arith, s.inside) in
     record {

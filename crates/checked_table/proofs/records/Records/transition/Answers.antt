@@ -10,16 +10,16 @@ use Rattle.image.specs.Spans.{Placed}
 use Rattle.checked_table.proofs.Holding.{fits_of, transition_fields, transition_target, transition_set, transitions_are, transition_is}
 use Rattle.checked_table.proofs.records.Records.transition.Goals as goal
 
-pub raw-transition-r-requires : goal.raw-transition-r-requires
-raw-transition-r-requires c = let r = c.args.self.now in (fits_of r, omega (arith, transitions_are r, c.requires))
+pub raw_transition-r-requires : goal.raw_transition-r-requires
+raw_transition-r-requires c = let r = c.args.self.now in (fits_of r, omega (arith, transitions_are r, c.requires))
 
-pub transition-of-requires : goal.transition-of-requires
-transition-of-requires c =
+pub transition_of-requires : goal.transition_of-requires
+transition_of-requires c =
     let r = c.args.self.now in
     let t = c.args.t in
     let here : t < r.sections.transitions.count = omega (arith, transitions_are r, c.requires) in
     let target = transition_target r t here in
-    subst (λ (x : RawTransition). (fields_keep r.sections x.kind x.p x.q ≡ true) × (Placed r.sections × (natural x.target < 65536))) (sym c.raw-transition-r.ensures)
+    subst (λ (x : RawTransition). (fields_keep r.sections x.kind x.p x.q ≡ true) × (Placed r.sections × (natural x.target < 65536))) (sym c.raw_transition-r.ensures)
     (transition_fields r t here, ((fits_of r).0, omega (arith, target, r.states)))
 
 pub returns : goal.returns
@@ -27,7 +27,7 @@ returns c =
     let r = c.args.self.now in
     let t = c.args.t in
     let here : t < r.sections.transitions.count = omega (arith, transitions_are r, c.requires) in
-    let same = c.transition-of.ensures ∙ ap transition_of c.raw-transition-r.ensures in
+    let same = c.transition_of.ensures ∙ ap transition_of c.raw_transition-r.ensures in
     record {
       is = same ∙ sym (transition_is r t here);
       fits = subst (λ (x : Transition). SetFits (atn_in r) x.kind) (sym same) (transition_set r t here);

@@ -14,8 +14,8 @@ over-records-requires c =
     let same = sections_are image c.in-Ok.sections l.0 l.1 in
     (same, (sections_fit image c.in-Ok.sections l.0 l.1, subst (λ (x : Sections). RecordsKeep image x) (sym same) c.requires.1))
 
-pub invariant-of-result : goal.invariant-of-result
-invariant-of-result c =
+pub invariant_of-result : goal.invariant_of-result
+invariant_of-result c =
     let means = atn-meaning c.over-records.result ∙ ap meaning c.over-records.ensures.0 in
     (subst NoRound (sym means) c.requires.2, tt)
 

@@ -42,8 +42,8 @@ returns-after-loop-at c =
       words = at_drop_all (words_from false (s.feeds + 1)) text s.at past ∙ (sym (at_drop_all (words_from s.comment (s.feeds + 1)) text s.at past) ∙ s.invariant.3);
     }
 
-pub returns-then-not-is-white : goal.returns-then-not-is-white
-returns-then-not-is-white c =
+pub returns-then-not-is_white : goal.returns-then-not-is_white
+returns-then-not-is_white c =
     record {
       within = search rules;
       few = search rules;

@@ -2,9 +2,9 @@ use Rattle.std.proofs.Common.{refl, arith}
 use Rattle.input.specs.Utf8.{places_of, stop_of}
 use Rattle.input.proofs.utf8.Utf8Source.new.Goals as goal
 
-pub invariant-of-result : goal.invariant-of-result
+pub invariant_of-result : goal.invariant_of-result
 unfolding places_of stop_of
-invariant-of-result c = ((omega arith, refl), (refl, tt))
+invariant_of-result c = ((omega arith, refl), (refl, tt))
 
 pub returns : goal.returns
 unfolding places_of

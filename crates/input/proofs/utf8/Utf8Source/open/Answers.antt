@@ -7,14 +7,14 @@ use Rattle.input.proofs.Agree.{formed_utf8}
 use Rattle.input.proofs.Standing.{stand_start, before_zero}
 use Rattle.input.proofs.utf8.Utf8Source.open.Goals as goal
 
-pub returns-in-err-check : goal.returns-in-err-check
-returns-in-err-check c =
-    let p = err_from_is_err_and c.from-residual.result c.from-residual.ensures.1 in
-    let no_text = c.in-err-check.ensures in
+pub returns-in_err-check : goal.returns-in_err-check
+returns-in_err-check c =
+    let p = err_from_is_err_and c.from_residual.result c.from_residual.ensures.1 in
+    let no_text = c.in_err-check.ensures in
     rw (p.1, p.2) (record { opens = (no_text, refl); agrees = refused_not _ _ no_text })
 
-pub invariant-of-self : goal.invariant-of-self
-invariant-of-self c = let readable = c.in-ok-check.ensures in (readable, (stand_start c.args.bytes.now readable.1, tt))
+pub invariant_of-self : goal.invariant_of-self
+invariant_of-self c = let readable = c.in_ok-check.ensures in (readable, (stand_start c.args.bytes.now readable.1, tt))
 
 pub returns : goal.returns
 returns c =

@@ -3,8 +3,8 @@ use Rattle.std.proofs.lemmas.Int.{to_z_pos}
 use Rattle.input.proofs.Methods.{look_small, look_some, look_none}
 use Rattle.input.proofs.utf8.Utf8SourceSource.look.Goals as goal
 
-pub overflow-cast-result : goal.overflow-cast-result
-overflow-cast-result c =
+pub overflow_cast-result : goal.overflow_cast-result
+overflow_cast-result c =
     let s = c.args.self.now in
     let h : c.in-Some.symbol ≤ 1114111 = look_small s.bytes.now s.at _ _ s.readable.1 s.stands c.in-Some.ensures in
     search rules

@@ -7,16 +7,16 @@ use Rattle.input.proofs.utf8.Utf8SourceSource.seek.Goals as goal
 pub returns-then-place-self : goal.returns-then-place-self
 returns-then-place-self c = let s = c.args.self.now in not_past s.bytes.now c.args.place s.at c.if-place-self.true
 
-pub returns-then-is-tail : goal.returns-then-is-tail
-returns-then-is-tail c =
+pub returns-then-is_tail : goal.returns-then-is_tail
+returns-then-is_tail c =
     let s = c.args.self.now in
-    let t : Tail (get_or s.bytes.now c.args.place 0) = subst Tail c.byte-or-zero.ensures (c.is-tail.ensures.yes c.if-is-tail.true) in
+    let t : Tail (get_or s.bytes.now c.args.place 0) = subst Tail c.byte_or_zero.ensures (c.is_tail.ensures.yes c.if-is_tail.true) in
     not_inside s.bytes.now c.args.place s.at s.readable.1 t
 
-pub invariant-of-self : goal.invariant-of-self
-invariant-of-self c =
+pub invariant_of-self : goal.invariant_of-self
+invariant_of-self c =
     let s = c.args.self.now in
-    let t : Tail (get_or s.bytes.now c.args.place 0) → ⊥ = λ t. both_ways _ c.if-is-tail.false (c.is-tail.ensures.all (subst Tail (sym c.byte-or-zero.ensures) t)) in
+    let t : Tail (get_or s.bytes.now c.args.place 0) → ⊥ = λ t. both_ways _ c.if-is_tail.false (c.is_tail.ensures.all (subst Tail (sym c.byte_or_zero.ensures) t)) in
     (s.readable, (seek_stands s.bytes.now c.args.place s.readable.1 c.if-place-self.false t, tt))
 
 pub returns : goal.returns

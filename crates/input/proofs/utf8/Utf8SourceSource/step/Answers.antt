@@ -2,15 +2,15 @@ use Rattle.std.proofs.Common.{◌+◌, ◌≤◌, length, rules}
 use Rattle.input.proofs.Methods.{step_inside, step_stands, step_some, step_none}
 use Rattle.input.proofs.utf8.Utf8SourceSource.step.Goals as goal
 
-pub overflow-add-self : goal.overflow-add-self
-overflow-add-self c =
+pub overflow_add-self : goal.overflow_add-self
+overflow_add-self c =
     let s = c.args.self.now in
     let h : s.at + c.in-Some.size ≤ length s.bytes.now = step_inside s.bytes.now s.at _ _ c.in-Some.ensures in
     let k : length s.bytes.now ≤ 1048576 = s.readable.0 in
     search rules
 
-pub invariant-of-self : goal.invariant-of-self
-invariant-of-self c =
+pub invariant_of-self : goal.invariant_of-self
+invariant_of-self c =
     let s = c.args.self.now in
     (s.readable, (step_stands s.bytes.now s.at _ _ s.readable.1 s.stands c.in-Some.ensures, tt))
 

@@ -45,28 +45,28 @@ returns-in-3 c =
     let s = three_at c.args.bytes.now c.args.at _ c.requires.text c.requires.place l (omega arith) c.leading_ones.ensures c.in-3.is in
     read_is c.args.bytes.now c.args.at _ 3 l s.0 (omega arith)
 
-pub bounds-bytes-at-in-default : goal.bounds-bytes-at-in-default
-bounds-bytes-at-in-default c =
+pub bounds-bytes-at-in_default : goal.bounds-bytes-at-in_default
+bounds-bytes-at-in_default c =
     let l = c.if-at-bytes.false in
-    let s = four_at c.args.bytes.now c.args.at _ c.requires.text c.requires.place l (omega arith) c.leading-ones.ensures (λ e. omega arith) (λ e. omega arith) (λ e. omega arith) in
+    let s = four_at c.args.bytes.now c.args.at _ c.requires.text c.requires.place l (omega arith) c.leading_ones.ensures (λ e. omega arith) (λ e. omega arith) (λ e. omega arith) in
     byte_inside c.args.bytes.now c.args.at 4 1 l s.0 (omega arith)
 
-pub bounds-bytes-at-in-default-2 : goal.bounds-bytes-at-in-default-2
-bounds-bytes-at-in-default-2 c =
+pub bounds-bytes-at-in_default-2 : goal.bounds-bytes-at-in_default-2
+bounds-bytes-at-in_default-2 c =
     let l = c.if-at-bytes.false in
-    let s = four_at c.args.bytes.now c.args.at _ c.requires.text c.requires.place l (omega arith) c.leading-ones.ensures (λ e. omega arith) (λ e. omega arith) (λ e. omega arith) in
+    let s = four_at c.args.bytes.now c.args.at _ c.requires.text c.requires.place l (omega arith) c.leading_ones.ensures (λ e. omega arith) (λ e. omega arith) (λ e. omega arith) in
     byte_inside c.args.bytes.now c.args.at 4 2 l s.0 (omega arith)
 
-pub bounds-bytes-at-in-default-3 : goal.bounds-bytes-at-in-default-3
-bounds-bytes-at-in-default-3 c =
+pub bounds-bytes-at-in_default-3 : goal.bounds-bytes-at-in_default-3
+bounds-bytes-at-in_default-3 c =
     let l = c.if-at-bytes.false in
-    let s = four_at c.args.bytes.now c.args.at _ c.requires.text c.requires.place l (omega arith) c.leading-ones.ensures (λ e. omega arith) (λ e. omega arith) (λ e. omega arith) in
+    let s = four_at c.args.bytes.now c.args.at _ c.requires.text c.requires.place l (omega arith) c.leading_ones.ensures (λ e. omega arith) (λ e. omega arith) (λ e. omega arith) in
     byte_inside c.args.bytes.now c.args.at 4 3 l s.0 (omega arith)
 
-pub returns-in-default : goal.returns-in-default
-returns-in-default c =
+pub returns-in_default : goal.returns-in_default
+returns-in_default c =
     let l = c.if-at-bytes.false in
-    let s = four_at c.args.bytes.now c.args.at _ c.requires.text c.requires.place l (omega arith) c.leading-ones.ensures (λ e. omega arith) (λ e. omega arith) (λ e. omega arith) in
+    let s = four_at c.args.bytes.now c.args.at _ c.requires.text c.requires.place l (omega arith) c.leading_ones.ensures (λ e. omega arith) (λ e. omega arith) (λ e. omega arith) in
     let v = symbol_four _ _ _ _ s.1 s.2 s.3 s.4 s.5 in
     read_is c.args.bytes.now c.args.at _ 4 l s.0
-    (simp (c.from-first.ensures, c.low-six-in-default.ensures, c.low-six-in-default-2.ensures, c.low-six-in-default-3.ensures) v)
+    (simp (c.from-first.ensures, c.low_six-in_default.ensures, c.low_six-in_default-2.ensures, c.low_six-in_default-3.ensures) v)

@@ -13,15 +13,15 @@ returns-then-at-self g c =
     search rules
 
 -- after the write, and before the count is raised
-pub invariant-of-self : goal.invariant-of-self
-invariant-of-self g c =
+pub invariant_of-self : goal.invariant_of-self
+invariant_of-self g c =
     let s = c.args.self.now in
     let size = length-set s.items.now s.len c.args.x in
     (omega arith, (rw take-set s.distinct, tt))
 
-pub invariant-of-self-then-at-self : goal.invariant-of-self-then-at-self
-invariant-of-self-then-at-self g c =
+pub invariant_of-self-then-at-self : goal.invariant_of-self-then-at-self
+invariant_of-self-then-at-self g c =
     let s = c.args.self.now in
     let size = length-set s.items.now s.len c.args.x in
     let within = c.if-at-self.true in
-    (omega arith, (rw take_more_set (distinct_push (members s) c.args.x s.distinct c.in-default.ensures.means), tt))
+    (omega arith, (rw take_more_set (distinct_push (members s) c.args.x s.distinct c.in_default.ensures.means), tt))

@@ -5,11 +5,11 @@ use Rattle.input.specs.declared.fault.Part.TheVariants.{Table}
 use Rattle.table.proofs.Sectioning.{holds_at, unheld_at}
 use Rattle.table.proofs.sections.Sections.of.Goals as goal
 
-pub returns-in-err-intervals : goal.returns-in-err-intervals
-returns-in-err-intervals c =
-    let p = err_from_is_err_and c.from-residual-in-err-intervals.result c.from-residual-in-err-intervals.ensures.1 in
-    let states = c.in-ok-states.ensures in
-    let transitions = c.in-ok-transitions.ensures in
+pub returns-in_err-intervals : goal.returns-in_err-intervals
+returns-in_err-intervals c =
+    let p = err_from_is_err_and c.from_residual-in_err-intervals.result c.from_residual-in_err-intervals.ensures.1 in
+    let states = c.in_ok-states.ensures in
+    let transitions = c.in_ok-transitions.ensures in
     rw (p.1, p.2)
     (inr (
       _,
@@ -17,16 +17,16 @@ returns-in-err-intervals c =
       (inr (
         _,
         holds_at _ _ (omega (arith, states.1)) transitions.2,
-        inl (unheld_at _ _ (omega (arith, states.1, transitions.1)) c.in-err-intervals.ensures),
+        inl (unheld_at _ _ (omega (arith, states.1, transitions.1)) c.in_err-intervals.ensures),
       )),
     ))
 
-pub returns-in-err-modes : goal.returns-in-err-modes
-returns-in-err-modes c =
-    let p = err_from_is_err_and c.from-residual-in-err-modes.result c.from-residual-in-err-modes.ensures.1 in
-    let states = c.in-ok-states.ensures in
-    let transitions = c.in-ok-transitions.ensures in
-    let intervals = c.in-ok-intervals.ensures in
+pub returns-in_err-modes : goal.returns-in_err-modes
+returns-in_err-modes c =
+    let p = err_from_is_err_and c.from_residual-in_err-modes.result c.from_residual-in_err-modes.ensures.1 in
+    let states = c.in_ok-states.ensures in
+    let transitions = c.in_ok-transitions.ensures in
+    let intervals = c.in_ok-intervals.ensures in
     rw (p.1, p.2)
     (inr (
       _,
@@ -37,18 +37,18 @@ returns-in-err-modes c =
         (inr (
           _,
           holds_at _ _ (omega (arith, states.1, transitions.1)) intervals.2,
-          inl (unheld_at _ _ (omega (arith, states.1, transitions.1, intervals.1)) c.in-err-modes.ensures),
+          inl (unheld_at _ _ (omega (arith, states.1, transitions.1, intervals.1)) c.in_err-modes.ensures),
         )),
       )),
     ))
 
-pub returns-in-err-rules : goal.returns-in-err-rules
-returns-in-err-rules c =
-    let p = err_from_is_err_and c.from-residual-in-err-rules.result c.from-residual-in-err-rules.ensures.1 in
-    let states = c.in-ok-states.ensures in
-    let transitions = c.in-ok-transitions.ensures in
-    let intervals = c.in-ok-intervals.ensures in
-    let modes = c.in-ok-modes.ensures in
+pub returns-in_err-rules : goal.returns-in_err-rules
+returns-in_err-rules c =
+    let p = err_from_is_err_and c.from_residual-in_err-rules.result c.from_residual-in_err-rules.ensures.1 in
+    let states = c.in_ok-states.ensures in
+    let transitions = c.in_ok-transitions.ensures in
+    let intervals = c.in_ok-intervals.ensures in
+    let modes = c.in_ok-modes.ensures in
     rw (p.1, p.2)
     (inr (
       _,
@@ -62,20 +62,20 @@ returns-in-err-rules c =
           (inr (
             _,
             holds_at _ _ (omega (arith, states.1, transitions.1, intervals.1)) modes.2,
-            inl (unheld_at _ _ (omega (arith, states.1, transitions.1, intervals.1, modes.1)) c.in-err-rules.ensures),
+            inl (unheld_at _ _ (omega (arith, states.1, transitions.1, intervals.1, modes.1)) c.in_err-rules.ensures),
           )),
         )),
       )),
     ))
 
-pub returns-in-err-actions : goal.returns-in-err-actions
-returns-in-err-actions c =
-    let p = err_from_is_err_and c.from-residual-in-err-actions.result c.from-residual-in-err-actions.ensures.1 in
-    let states = c.in-ok-states.ensures in
-    let transitions = c.in-ok-transitions.ensures in
-    let intervals = c.in-ok-intervals.ensures in
-    let modes = c.in-ok-modes.ensures in
-    let rules = c.in-ok-rules.ensures in
+pub returns-in_err-actions : goal.returns-in_err-actions
+returns-in_err-actions c =
+    let p = err_from_is_err_and c.from_residual-in_err-actions.result c.from_residual-in_err-actions.ensures.1 in
+    let states = c.in_ok-states.ensures in
+    let transitions = c.in_ok-transitions.ensures in
+    let intervals = c.in_ok-intervals.ensures in
+    let modes = c.in_ok-modes.ensures in
+    let rules = c.in_ok-rules.ensures in
     rw (p.1, p.2)
     (inr (
       _,
@@ -92,7 +92,7 @@ returns-in-err-actions c =
             (inr (
               _,
               holds_at _ _ (omega (arith, states.1, transitions.1, intervals.1, modes.1)) rules.2,
-              inl (unheld_at _ _ (omega (arith, states.1, transitions.1, intervals.1, modes.1, rules.1)) c.in-err-actions.ensures),
+              inl (unheld_at _ _ (omega (arith, states.1, transitions.1, intervals.1, modes.1, rules.1)) c.in_err-actions.ensures),
             )),
           )),
         )),
@@ -101,12 +101,12 @@ returns-in-err-actions c =
 
 pub returns-then-actions-image : goal.returns-then-actions-image
 returns-then-actions-image c =
-    let states = c.in-ok-states.ensures in
-    let transitions = c.in-ok-transitions.ensures in
-    let intervals = c.in-ok-intervals.ensures in
-    let modes = c.in-ok-modes.ensures in
-    let rules = c.in-ok-rules.ensures in
-    let actions = c.in-ok-actions.ensures in
+    let states = c.in_ok-states.ensures in
+    let transitions = c.in_ok-transitions.ensures in
+    let intervals = c.in_ok-intervals.ensures in
+    let modes = c.in_ok-modes.ensures in
+    let rules = c.in_ok-rules.ensures in
+    let actions = c.in_ok-actions.ensures in
     (inr (
       _,
       states.2,

@@ -14,7 +14,7 @@ returns-in_err-check c =
     rw (p.1, p.2) (record { opens = (no_text, refl); agrees = refused_not _ _ no_text })
 
 pub invariant_of-self : goal.invariant_of-self
-invariant_of-self c = let readable = c.in_ok-check.ensures in (readable, (stand_start c.args.bytes.now readable.1, tt))
+invariant_of-self c = let r = c.in_ok-check.ensures in record { readable = r; stands = stand_start c.args.bytes.now r.1 }
 
 pub returns : goal.returns
 returns c =

@@ -17,7 +17,7 @@ pub invariant_of-self : goal.invariant_of-self
 invariant_of-self c =
     let s = c.args.self.now in
     let t : Tail (get_or s.bytes.now c.args.place 0) → ⊥ = λ t. both_ways _ c.if-is_tail.false (c.is_tail.ensures.all (subst Tail (sym c.byte_or_zero.ensures) t)) in
-    (s.readable, (seek_stands s.bytes.now c.args.place s.readable.1 c.if-place-self.false t, tt))
+    record { readable = s.readable; stands = seek_stands s.bytes.now c.args.place s.readable.1 c.if-place-self.false t }
 
 pub returns : goal.returns
 returns c =

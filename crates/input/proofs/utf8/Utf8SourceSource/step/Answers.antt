@@ -12,7 +12,7 @@ overflow_add-self c =
 pub invariant_of-self : goal.invariant_of-self
 invariant_of-self c =
     let s = c.args.self.now in
-    (s.readable, (step_stands s.bytes.now s.at _ _ s.readable.1 s.stands c.in-Some.ensures, tt))
+    record { readable = s.readable; stands = step_stands s.bytes.now s.at _ _ s.readable.1 s.stands c.in-Some.ensures }
 
 pub returns-in-Some : goal.returns-in-Some
 returns-in-Some c =

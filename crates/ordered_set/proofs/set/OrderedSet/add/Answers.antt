@@ -24,4 +24,7 @@ invariant_of-self-then-at-self g c =
     let s = c.args.self.now in
     let size = length-set s.items.now s.len c.args.x in
     let within = c.if-at-self.true in
-    (omega arith, (rw take_more_set (distinct_push (members s) c.args.x s.distinct c.in_default.ensures.means), tt))
+    record {
+      fits = omega arith;
+      distinct = rw take_more_set (distinct_push (members s) c.args.x s.distinct c.in_default.ensures.means);
+    }

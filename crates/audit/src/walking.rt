@@ -13,9 +13,9 @@ pub struct Walked {
 
 /// Reads a source to its end, symbol by symbol.
 pub fn walk<S: Source>(source: &mut S) -> Walked
-    ensures symbols { result.symbols ≡ length (rest (text source.old)) }
-    ensures feeds { result.feeds ≡ occurs 10 (rest (text source.old)) }
-    ensures ended { text source.new ≡ read_to (text source.old) (length (text source.old).symbols) }
+    ensures symbols { result.symbols ≡ length (rest (S.text source.old)) }
+    ensures feeds { result.feeds ≡ occurs 10 (rest (S.text source.old)) }
+    ensures ended { S.text source.new ≡ read_to (S.text source.old) (length (S.text source.old).symbols) }
 {
     let mut symbols = 0;
     let mut feeds = 0;

@@ -1,6 +1,7 @@
 // A text that is an array of symbols.
 use crate::reading::*;
 use input::*;
+use std::test::Fail;
 
 const TEXT: [u32; 4] = [0, 0xd800, 1114111, 0x61];
 

@@ -1,6 +1,6 @@
+//! Tests of the crate `input`. It has nothing for other crates.
 #![tactic(auto)]
 
-// Tests of the crate `input`. It has nothing for other crates.
 #[cfg(test)]
 mod arrays;
 #[cfg(test)]

@@ -2,6 +2,7 @@
 use crate::reading::*;
 use input::*;
 use std::process::Abort;
+use std::test::Fail;
 
 const MOST: usize = 1048576;
 

@@ -1,6 +1,7 @@
 // Moving through a text in UTF-8.
 use crate::reading::*;
 use input::*;
+use std::test::Fail;
 
 // A text of sequences of one, two, three and four bytes, and where its symbols and its end are.
 const TEXT: [u8; 10] = [0x61, 0xc3, 0xa9, 0xe2, 0x82, 0xac, 0xf0, 0x9d, 0x84, 0x9e];

@@ -72,5 +72,7 @@ pub fn takes(rt: &impl Abort, bytes: &[u8], symbol: i32) -> Result<(), Fail> {
 // A sequence should begin at this place, and none does.
 pub fn refuses(rt: &impl Abort, bytes: &[u8], place: usize) -> Result<(), Fail> {
     let mut source = Utf8Source::new();
-    refused(rt, source.open(bytes), 7, place).note(format_args!("{bytes:?}"))
+    let answer = source.open(bytes);
+    assert!(rt; answer.is_err(), "{bytes:?}");
+    refused(rt, answer, 7, place)
 }

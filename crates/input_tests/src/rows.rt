@@ -1,6 +1,7 @@
 // The bytes that are well-formed, and those beside them.
 use crate::reading::*;
 use std::process::Abort;
+use std::test::Fail;
 
 // The rows of the Unicode Standard's table of well-formed byte sequences: how many bytes, the least
 // byte at each place, the greatest, and the first symbol and the last.

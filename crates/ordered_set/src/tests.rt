@@ -37,7 +37,7 @@ fn numbers_are_added_once_while_there_is_room(rt: HostRuntime) {
     assert_eq!(rt; set.add(0), Added::Appended(1));
     assert_eq!(rt; set.add(7), Added::Found(0));
     assert_eq!(rt; set.add(9), Added::Full);
-    assert_eq!(rt; set.as_slice(), &[7, 0]);
+    assert_eq!(rt; set.as_slice(), [7, 0].as_slice());
 }
 
 #[test]
@@ -67,7 +67,7 @@ fn a_cleared_set_is_empty(rt: HostRuntime) {
 
 // Adds `x` to a set over `items` and, once that set is gone, `y` to one that has its members.
 fn add_in_two_turns<T: Element + Drop>(items: &mut [T], x: T, y: T) -> usize
-    ensures { take result items.new ≡ added alike (length items.old) (added alike (length items.old) [] x) y }
+    ensures { take result items.new ≡ added T.alike (length items.old) (added T.alike (length items.old) [] x) y }
 {
     let mut first = OrderedSet::over(items);
     let _ = first.add(x);

@@ -1,5 +1,5 @@
 -- Which transitions belong to which state.
-use Rattle.std.proofs.Common.{◌≡◌, ℕ, zero, suc, ◌+◌, ◌-◌, ◌<◌, ◌≤◌, Bool, true, false, ◌&&◌, eqb, leb, List, ℤ, pos, sym, refl, ap, ◌∙◌, subst, ⊎_elim, add-zero, add-suc, add-one, arith}
+use Rattle.std.proofs.Common.{◌≡◌, ℕ, zero, suc, ◌+◌, ◌-◌, ◌<◌, ◌≤◌, true, eqb, List, ℤ, sym, refl, ap, ◌∙◌, ⊎_elim, add-zero, add-suc, add-one, arith}
 use Rattle.std.proofs.lemmas.Bool.{le-leb, lt-leb, eq-eqb, and_parts, cases_eq}
 use Rattle.image.specs.declared.raw.RawState.{RawState}
 use Rattle.image.specs.declared.sections.Section.TheVariants.{States}

@@ -6,7 +6,7 @@ use Rattle.image.specs.declared.sections.Section.TheVariants.{States, Transition
 use Rattle.image.specs.declared.sections.Sections.{Sections}
 use Rattle.image.specs.Spans.{order_of, span_of, width_of, Placed}
 use Rattle.image.specs.Rules.{record_keeps}
-use Rattle.image.specs.Keeping.{FirstFailure, SectionKeeps, KeptBefore, Breaks, BreaksFirst}
+use Rattle.image.specs.Keeping.{FirstFailure, KeptBefore, Breaks, BreaksFirst}
 
 -- The section of that order.
 section_of : ℕ → Section

@@ -1,10 +1,7 @@
 -- The rules of the records of an image, section by section.
-use Rattle.std.specs.Prelude.{ℕ, ◌+◌, ◌-◌, Bool, true, false, cond, not, ◌&&◌, ◌||◌, List, ℤ, pos, negsuc, ◌==◌, int_le, nat_le}
-use Rattle.image.specs.declared.raw.Interval.{Interval}
+use Rattle.std.specs.Prelude.{ℕ, ◌+◌, ◌-◌, Bool, false, cond, not, ◌&&◌, ◌||◌, List, ℤ, pos, negsuc, ◌==◌, int_le, nat_le}
 use Rattle.image.specs.declared.raw.RawState.{RawState}
 use Rattle.image.specs.declared.raw.RawTransition.{RawTransition}
-use Rattle.image.specs.declared.raw.RawRule.{RawRule}
-use Rattle.image.specs.declared.raw.RawAction.{RawAction}
 use Rattle.image.specs.declared.sections.Section.{Section}
 use Rattle.image.specs.declared.sections.Section.TheVariants.{States, Transitions, Intervals, Modes, Rules, Actions}
 use Rattle.image.specs.declared.sections.Sections.{Sections}

@@ -1,5 +1,5 @@
 -- Where in an image an index is, and which spot a fault is about.
-use Rattle.std.specs.Prelude.{◌≡◌, ℕ, ◌+◌, ◌*◌, ◌<◌, ◌≤◌, List, ℤ}
+use Rattle.std.specs.Prelude.{◌≡◌, ℕ, ◌+◌, ◌*◌, ◌<◌, ◌≤◌}
 use Rattle.image.specs.declared.sections.Section.{Section}
 use Rattle.image.specs.declared.sections.Sections.{Sections}
 use Rattle.image.specs.declared.spot.Spot.{Spot}

@@ -1,7 +1,7 @@
-use Rattle.std.proofs.Common.{min, sym, ap, ◌∙◌, arith, rules}
+use Rattle.std.proofs.Common.{min, sym, ap, ◌∙◌, rules}
 use Rattle.std.specs.Str.{all_ascii_digits}
 use Rattle.std.proofs.lemmas.List.{at_drop_all, take_all}
-use Rattle.std.proofs.lemmas.Bool.{and_from, and_right, lt-ltb}
+use Rattle.std.proofs.lemmas.Bool.{and_from, and_right}
 use Rattle.decimals.specs.Numbers.{size_of}
 use Rattle.decimals.proofs.Values.{digits_more, digits_none, size_more}
 use Rattle.decimals.proofs.numbers.size_of_digits.Goals as goal

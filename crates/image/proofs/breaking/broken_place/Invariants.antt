@@ -1,4 +1,4 @@
-use Rattle.std.proofs.Common.{ℕ, ◌<◌}
+use Rattle.std.proofs.Common.{◌<◌}
 use Rattle.image.specs.declared.sections.Section.{Section}
 use Rattle.image.specs.Spans.{order_of}
 use Rattle.image.specs.Keeping.{SectionKeeps}

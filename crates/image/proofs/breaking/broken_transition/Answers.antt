@@ -1,7 +1,6 @@
-use Rattle.std.proofs.Common.{◌≡◌, ℕ, ◌<◌, ◌≤◌, true, sym, ap, ⊎_elim, arith}
+use Rattle.std.proofs.Common.{◌≡◌, ◌<◌, ◌≤◌, sym, ap, ⊎_elim, arith}
 use Rattle.std.proofs.lemmas.Bool.{cases_lt}
 use Rattle.image.specs.Raw.{counts_before}
-use Rattle.image.specs.Rules.{state_keeps, transition_keeps}
 use Rattle.image.proofs.Counting.{counts_none, counts_read, state_end, counts_all}
 use Rattle.image.proofs.breaking.broken_transition.Goals as goal
 

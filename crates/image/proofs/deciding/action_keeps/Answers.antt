@@ -1,5 +1,4 @@
-use Rattle.std.proofs.Common.{◌≡◌, Bool, true, false, not, ◌&&◌, sym, refl, ap, ◌∙◌, arith}
-use Rattle.image.specs.Numbers.{all_of}
+use Rattle.std.proofs.Common.{◌≡◌, true, false, not, sym, ap, ◌∙◌, arith}
 use Rattle.image.specs.Raw.{raw_action}
 use Rattle.image.specs.Rules.{argument_keeps, same_action, action_keeps}
 use Rattle.image.proofs.Ranges.{all_from, all_fails}

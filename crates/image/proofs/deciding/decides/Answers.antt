@@ -1,6 +1,5 @@
-use Rattle.std.proofs.Common.{◌≡◌, Bool, true, false, ◌||◌, leb, sym, refl, ◌∙◌, arith}
+use Rattle.std.proofs.Common.{◌≡◌, false, leb, sym, ◌∙◌, arith}
 use Rattle.std.proofs.lemmas.Bool.{le-leb, lt-leb}
-use Rattle.image.specs.Numbers.{all_of}
 use Rattle.image.specs.Rules.{may_decide, decides}
 use Rattle.image.proofs.Ranges.{all_from, all_fails}
 use Rattle.image.proofs.deciding.decides.Goals as goal

@@ -1,5 +1,4 @@
-use Rattle.std.proofs.Common.{◌≡◌, ℕ, ◌-◌, Bool, true, false, not, ◌&&◌, sym, refl, ap, ◌∙◌, arith, rules}
-use Rattle.image.specs.Numbers.{all_of}
+use Rattle.std.proofs.Common.{◌≡◌, ◌-◌, true, false, not, sym, ap, ◌∙◌, arith}
 use Rattle.image.specs.Raw.{raw_transition}
 use Rattle.image.specs.Rules.{silent_kind, same_target, may_decide}
 use Rattle.image.proofs.Ranges.{all_from, all_fails}

@@ -1,5 +1,5 @@
-use Rattle.std.proofs.Common.{◌≡◌, ℕ, ◌+◌, ◌≤◌, true, sym, ◌∙◌, subst, arith, rules}
-use Rattle.image.specs.Rules.{numbers_keep, state_keeps}
+use Rattle.std.proofs.Common.{sym, ◌∙◌, arith, rules}
+use Rattle.image.specs.Rules.{state_keeps}
 use Rattle.image.proofs.Ruling.{numbers_span}
 use Rattle.image.proofs.deciding.state_keeps.Goals as goal
 

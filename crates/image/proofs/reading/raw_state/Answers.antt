@@ -1,4 +1,4 @@
-use Rattle.std.proofs.Common.{◌≡◌, ◌+◌, ◌*◌, ap, ◌∙◌, arith, rules}
+use Rattle.std.proofs.Common.{◌≡◌, ◌+◌, ◌*◌, ap, arith, rules}
 use Rattle.image.specs.Layout.{number}
 use Rattle.image.proofs.Slices.{part_number}
 use Rattle.image.proofs.reading.raw_state.Goals as goal

@@ -1,4 +1,4 @@
-use Rattle.std.proofs.Common.{◌≡◌, Bool, true, false, rules}
+use Rattle.std.proofs.Common.{◌≡◌, true, false, rules}
 use Rattle.image.specs.Numbers.{same_number}
 use Rattle.image.specs.Raw.{raw_action}
 use Rattle.image.specs.Rules.{same_action}

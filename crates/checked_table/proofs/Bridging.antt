@@ -1,14 +1,17 @@
 -- The silent steps of a table are those of its graph.
 use Rattle.std.proofs.Common.{◌≡◌, ℕ, zero, suc, ◌+◌, ◌-◌, ◌<◌, ◌≤◌, Bool, true, false, cond, ◌&&◌, ltb, ◌⊎◌, List, [], ◌∷◌, length, get_or, take, drop, Some, None, Option, sym, refl, ap, ◌∙◌, subst, inl, inr, ⊎_elim, arith}
 use Rattle.std.specs.List.{slice_get}
-use Rattle.std.proofs.lemmas.Bool.{cases_lt, lt-ltb, le-ltb}
+use Rattle.std.specs.Option.{option_and_then, option_map_or}
+use mathlib.Core.Option as maybe
+use mathlib.Core.Option.{none, some}
+use Rattle.std.proofs.lemmas.Bool.{cases_lt, lt-ltb, le-ltb, le-leb, leb-true, and_from, and_parts}
 use Rattle.std.proofs.lemmas.List.{get_or_past, get_or-take, get_or-drop, length-take-le, length-drop}
 use Rattle.std.proofs.lemmas.Option.{slice_get-get_or}
 use Rattle.rounds.specs.declared.passing.Passing.{Passing}
 use Rattle.rounds.specs.declared.passing.Passing.TheVariants.{Silent, Call, Reads}
 use Rattle.rounds.proofs.Ranks.{ranks_fall_lem as graph-ranks-fall, steps_fall_lem as graph-steps-fall}
 use Rattle.rounds.specs.Rounds as graphs
-use Rattle.rounds.specs.Rounds.{Graph, Sound, Step, along, back, standing, and_then}
+use Rattle.rounds.specs.Rounds.{Graph, Sound, has, Step, along, back, standing}
 use Rattle.checked_table.specs.declared.parts.State.{State}
 use Rattle.checked_table.specs.declared.parts.Transition.{Transition}
 use Rattle.checked_table.specs.declared.parts.TransitionKind.{TransitionKind}
@@ -33,19 +36,15 @@ nth_none (x ∷ xs) (suc n) zero h = absurd (omega arith)
 nth_none (x ∷ xs) (suc n) (suc k) h = nth_none xs n k (omega arith)
 
 -- What is left of a stand in the graph.
-abbrev project : Option Stand → Option graphs.Stand
-project None = None
-project (Some f) = Some (standing f.state f.returns)
-
-abbrev state_in : Option graphs.Stand → ℕ
-state_in None = 0
-state_in (Some p) = p.state
+abbrev project : Option Stand → maybe.Option graphs.Stand
+project None = none
+project (Some f) = some (standing f.state f.returns)
 
 -- Where the graph leads.
-abbrev after : Passing → ℕ → ℕ → List ℕ → Option graphs.Stand
-after Silent target follow rs = Some (standing target rs)
-after Call target follow rs = Some (standing target (follow ∷ rs))
-after Reads target follow rs = None
+abbrev after : Passing → ℕ → ℕ → List ℕ → maybe.Option graphs.Stand
+after Silent target follow rs = some (standing target rs)
+after Call target follow rs = some (standing target (follow ∷ rs))
+after Reads target follow rs = none
 
 on_end : (b : Bool) (target follow : ℕ) (f : Stand) → project (cond b (Some (move_to target f)) None) ≡ after (cond b Silent Reads) target follow f.returns
 on_end true target follow f = refl
@@ -115,7 +114,7 @@ module _ (a : Atn) (judge : ℕ → ℕ → Bool) (at_end : Bool) where
   passes_open (NotSet first count) target f g e = passed_end at_end false (move_to target f) g e
   passes_open Wildcard target f g e = passed_end at_end false (move_to target f) g e
 
-  then_open : (o : Option Transition) (f g : Stand) → and_then o (λ t. passes here t f) ≡ Some g → and_then o (λ t. passes (openly a) t f) ≡ Some g
+  then_open : (o : Option Transition) (f g : Stand) → option_and_then (λ t. passes here t f) o ≡ Some g → option_and_then (λ t. passes (openly a) t f) o ≡ Some g
   then_open None f g e = never e
   then_open (Some t) f g e = passes_open t.kind t.target f g e
 
@@ -140,7 +139,7 @@ module _ (a : Atn) (formed : Formed a) where
   unfolding outs
   kth_none s k h = nth_none (drop (state_at a s).first a.transitions) (state_at a s).count k h
 
-  back_same : (b : Bool) (f : Stand) (rs : List ℕ) → project (returned b f rs) ≡ cond b (graphs.pop rs) None
+  back_same : (b : Bool) (f : Stand) (rs : List ℕ) → project (returned b f rs) ≡ cond b (graphs.pop rs) none
   back_same true f [] = refl
   back_same true f (r ∷ rs) = refl
   back_same false f rs = refl
@@ -150,7 +149,26 @@ module _ (a : Atn) (formed : Formed a) where
   follow_same Call t rs = refl
   follow_same Reads t rs = refl
 
-  step_same : (x : Step) (f : Stand) → project (step (openly a) x f) ≡ graphs.step (graph_of a) x (standing f.state f.returns)
+  -- The graph's step for a step of the table at a state: its transitions go by their numbers in the table.
+  abbrev numbered : ℕ → Step → Step
+  numbered s (along k) = along ((state_at a s).first + k)
+  numbered s back = back
+
+  and_no : (b c : Bool) → c ≡ false → b && c ≡ false
+  and_no true c e = e
+  and_no false c e = refl
+
+  has_kth : (s k : ℕ) → k < (state_at a s).count → has (graph_of a) s ((state_at a s).first + k) ≡ true
+  has_kth s k h =
+      let first = (state_at a s).first in
+      and_from _ _ (le-leb first (first + k) (omega arith)) (lt-ltb (first + k) (first + (state_at a s).count) (omega arith))
+
+  has_none : (s k : ℕ) → (state_at a s).count ≤ k → has (graph_of a) s ((state_at a s).first + k) ≡ false
+  has_none s k h =
+      let first = (state_at a s).first in
+      and_no _ _ (le-ltb (first + k) (first + (state_at a s).count) (omega arith))
+
+  step_same : (x : Step) (f : Stand) → project (step (openly a) x f) ≡ graphs.step (graph_of a) (numbered f.state x) (standing f.state f.returns)
   unfolding step
   step_same (along k) f = ⊎_elim yes no (cases_lt k (state_at a s).count)
     where
@@ -161,47 +179,114 @@ module _ (a : Atn) (formed : Formed a) where
       t = (state_at a s).first + k
 
       passed : Option Transition → Option Stand
-      passed o = and_then o (λ x. passes (openly a) x f)
+      passed o = option_and_then (λ x. passes (openly a) x f) o
 
-      g : Option graphs.Stand
+      g : maybe.Option graphs.Stand
       g = graphs.follow (graph_of a) ((graph_of a).passing t) t f.returns
 
-      yes : k < (state_at a s).count → project (passed (slice_get (outs a s) k)) ≡ cond (ltb k (state_at a s).count) g None
+      yes : k < (state_at a s).count → project (passed (slice_get (outs a s) k)) ≡ cond (has (graph_of a) s t) g none
       yes h =
           ap (λ (o : Option Transition). project (passed o)) (kth_is s k h)
           ∙ (kind_same a (transition_at a t).kind (transition_at a t).target f
           ∙ (sym (follow_same (passing_of a (transition_at a t).kind) t f.returns)
-          ∙ ap (λ (b : Bool). cond b g None) (sym (lt-ltb k (state_at a s).count h))))
+          ∙ ap (λ (b : Bool). cond b g none) (sym (has_kth s k h))))
 
-      no : (state_at a s).count ≤ k → project (passed (slice_get (outs a s) k)) ≡ cond (ltb k (state_at a s).count) g None
+      no : (state_at a s).count ≤ k → project (passed (slice_get (outs a s) k)) ≡ cond (has (graph_of a) s t) g none
       no h =
           ap (λ (o : Option Transition). project (passed o)) (kth_none s k h)
-          ∙ ap (λ (b : Bool). cond b g None) (sym (le-ltb k (state_at a s).count h))
+          ∙ ap (λ (b : Bool). cond b g none) (sym (has_none s k h))
   step_same back f = back_same (is_stop a f.state) f f.returns
 
-  then_same : (o : Option Stand) (xs : List Step) → ((f : Stand) → project (walk (openly a) xs f) ≡ graphs.walk (graph_of a) xs (standing f.state f.returns)) → project (and_then o (walk (openly a) xs)) ≡ and_then (project o) (graphs.walk (graph_of a) xs)
+  -- The graph's steps for the steps of a walk through the table.
+  unfoldable numbers : List Step → Stand → List Step
+  numbers [] f = []
+  numbers (x ∷ xs) f = numbered f.state x ∷ option_map_or (numbers xs) (step (openly a) x f) []
+
+  then_same : (o : Option Stand) (xs : List Step)
+      → ((f : Stand) → project (walk (openly a) xs f) ≡ graphs.walk (graph_of a) (numbers xs f) (standing f.state f.returns))
+      → project (option_and_then (walk (openly a) xs) o) ≡ graphs.and_then (project o) (graphs.walk (graph_of a) (option_map_or (numbers xs) o []))
   then_same None xs h = refl
   then_same (Some f) xs h = h f
 
-  walk_same : (xs : List Step) (f : Stand) → project (walk (openly a) xs f) ≡ graphs.walk (graph_of a) xs (standing f.state f.returns)
-  unfolding walk
+  walk_same : (xs : List Step) (f : Stand) → project (walk (openly a) xs f) ≡ graphs.walk (graph_of a) (numbers xs f) (standing f.state f.returns)
+  unfolding walk numbers
   walk_same [] f = refl
   walk_same (x ∷ xs) f =
       then_same (step (openly a) x f) xs (walk_same xs)
-      ∙ ap (λ (o : Option graphs.Stand). and_then o (graphs.walk (graph_of a) xs)) (step_same x f)
-
-  some_back : (o : Option Stand) (s : ℕ) (rs : List ℕ) → project o ≡ Some (standing s rs) → (f : Stand) × (o ≡ Some f) × (f.state ≡ s)
-  some_back None s rs e = let z : ◌≡◌ {A = ℕ} 0 1 = cc in absurd (omega arith)
-  some_back (Some f) s rs e = (f, refl, ap state_in e)
+      ∙ ap (λ (o : maybe.Option graphs.Stand). graphs.and_then o (graphs.walk (graph_of a) (option_map_or (numbers xs) (step (openly a) x f) []))) (step_same x f)
 
   pub round_graph : (s : ℕ) → Round a s → graphs.Round (graph_of a) s
-  round_graph s (x, xs, f, w, e) =
-      (x, xs, f.returns, sym (walk_same (x ∷ xs) (fresh s)) ∙ (ap project w ∙ ap (λ (k : ℕ). Some (standing k f.returns)) e))
+  unfolding numbers
+  round_graph s (x, xs, f, w, e) = (
+    numbered s x,
+    option_map_or (numbers xs) (step (openly a) x (fresh s)) [],
+    f.returns,
+    sym (walk_same (x ∷ xs) (fresh s)) ∙ (ap project w ∙ ap (λ (k : ℕ). some (standing k f.returns)) e),
+  )
+
+  -- The table's step for a step of the graph at a state.
+  abbrev offset : ℕ → Step → Step
+  offset s (along t) = along (t - (state_at a s).first)
+  offset s back = back
+
+  none_never : {A : Type 0} (q : graphs.Stand) → ◌≡◌ {A = maybe.Option graphs.Stand} none (some q) → A
+  none_never q e = let z : ◌≡◌ {A = ℕ} 0 1 = cc in absurd (omega arith)
+
+  -- A step of the graph that can be made is the one for its step of the table.
+  offset_same : (y : Step) (p q : graphs.Stand) → graphs.step (graph_of a) y p ≡ some q → numbered p.state (offset p.state y) ≡ y
+  offset_same (along t) p q e = go (has (graph_of a) p.state t) refl e
+    where
+      first : ℕ
+      first = (state_at a p.state).first
+
+      go : (b : Bool) → has (graph_of a) p.state t ≡ b → cond b (graphs.follow (graph_of a) ((graph_of a).passing t) t p.returns) none ≡ some q → along (first + (t - first)) ≡ along t
+      go true h i =
+          let inside : first ≤ t = leb-true first t (and_parts _ _ h).0 in
+          let same : first + (t - first) ≡ t = omega arith in
+          ap along same
+      go false h i = none_never q i
+  offset_same back p q e = refl
+
+  some_back : (o : Option Stand) (q : graphs.Stand) → project o ≡ some q → (f : Stand) × (o ≡ Some f) × (standing f.state f.returns ≡ q)
+  some_back None q e = none_never q e
+  some_back (Some f) q e = (f, refl, cc)
+
+  step_back : (y : Step) (f : Stand) (q : graphs.Stand) → graphs.step (graph_of a) y (standing f.state f.returns) ≡ some q
+      → (g : Stand) × (step (openly a) (offset f.state y) f ≡ Some g) × (standing g.state g.returns ≡ q)
+  step_back y f q e =
+      let p = standing f.state f.returns in
+      some_back (step (openly a) (offset f.state y) f) q
+      (step_same (offset f.state y) f ∙ (ap (λ (z : Step). graphs.step (graph_of a) z p) (offset_same y p q e) ∙ e))
+
+  -- A walk through the table that ends where one of the graph does, from the same stand.
+  abbrev Back : List Step → Type 0
+  Back ys =
+      (f : Stand) (q : graphs.Stand) → graphs.walk (graph_of a) ys (standing f.state f.returns) ≡ some q
+      → (xs : List Step) × (g : Stand) × (walk (openly a) xs f ≡ Some g) × (standing g.state g.returns ≡ q)
+
+  cons_back : (y : Step) (ys : List Step) → Back ys → (f : Stand) (q : graphs.Stand)
+      → graphs.walk (graph_of a) (y ∷ ys) (standing f.state f.returns) ≡ some q
+      → (xs : List Step) × (g : Stand) × (walk (openly a) (offset f.state y ∷ xs) f ≡ Some g) × (standing g.state g.returns ≡ q)
+  unfolding walk
+  cons_back y ys back_from f q e = go (graphs.step (graph_of a) y (standing f.state f.returns)) refl e
+    where
+      go : (o : maybe.Option graphs.Stand) → graphs.step (graph_of a) y (standing f.state f.returns) ≡ o → graphs.and_then o (graphs.walk (graph_of a) ys) ≡ some q
+          → (xs : List Step) × (g : Stand) × (option_and_then (walk (openly a) xs) (step (openly a) (offset f.state y) f) ≡ Some g) × (standing g.state g.returns ≡ q)
+      go none h i = none_never q i
+      go (some p) h i =
+          let there = step_back y f p h in
+          let rest = back_from there.0 q (ap (graphs.walk (graph_of a) ys) there.2 ∙ i) in
+          (rest.0, rest.1, ap (option_and_then (walk (openly a) rest.0)) there.1 ∙ rest.2, rest.3)
+
+  walk_back : (ys : List Step) → Back ys
+  unfolding walk
+  walk_back [] f q e = ([], f, refl, cc)
+  walk_back (y ∷ ys) f q e = let r = cons_back y ys (walk_back ys) f q e in (offset f.state y ∷ r.0, r.1, r.2, r.3)
 
   pub graph_round : (s : ℕ) → graphs.Round (graph_of a) s → Round a s
-  graph_round s (x, xs, rs, w) =
-      let there = some_back (walk (openly a) (x ∷ xs) (fresh s)) s rs (walk_same (x ∷ xs) (fresh s) ∙ w) in
-      (x, xs, there.0, there.1, there.2)
+  graph_round s (y, ys, rs, w) =
+      let r = cons_back y ys (walk_back ys) (fresh s) (standing s rs) w in
+      (offset s y, r.0, r.1, r.2, ap (λ (p : graphs.Stand). p.state) r.3)
 
   pub graph_sound : Sound (graph_of a)
   graph_sound =
@@ -232,5 +317,5 @@ module _ (a : Atn) (formed : Formed a) where
 
   pub steps_fall_lem : NoRound a → StepsFall a
   steps_fall_lem ends judge at_end x f g e =
-      graph-steps-fall (graph_of a) graph_sound (graph_ends ends) x (standing f.state f.returns) (standing g.state g.returns)
+      graph-steps-fall (graph_of a) graph_sound (graph_ends ends) (numbered f.state x) (standing f.state f.returns) (standing g.state g.returns)
       (sym (step_same x f) ∙ ap project (opened a judge at_end x f g e))

@@ -1,7 +1,7 @@
 -- Steps through a table, walks of silent ones, and going round.
-use Rattle.std.specs.Prelude.{◌≡◌, ℕ, ◌<◌, Bool, true, false, cond, ◌&&◌, List, [], ◌∷◌, ◌++◌, length, Some, None, Option}
+use Rattle.std.specs.Prelude.{◌≡◌, ℕ, ◌<◌, Bool, true, false, cond, ◌&&◌, List, [], ◌∷◌, ◌++◌, length, Some, None, Option, option_and_then}
 use Rattle.std.specs.List.{slice_get}
-use Rattle.rounds.specs.Rounds.{Step, along, back, and_then}
+use Rattle.rounds.specs.Rounds.{Step, along, back}
 use Rattle.checked_table.specs.declared.parts.Transition.{Transition}
 use Rattle.checked_table.specs.declared.parts.TransitionKind.{TransitionKind}
 use Rattle.checked_table.specs.declared.parts.TransitionKind.TheVariants.{Epsilon, Range, Rule as Call, Predicate, Atom, Action, Set, NotSet, Wildcard}
@@ -62,13 +62,13 @@ returned true f (r ∷ rs) = Some (record { state = r; returns = rs; actions = f
 
 -- Where a step that reads no symbol leads, if it can be made: along the k-th transition of the state, or back from a stop.
 unfoldable pub step : Here → Step → Stand → Option Stand
-step here (along k) f = and_then (slice_get (outs here.atn f.state) k) (λ t. passes here t f)
+step here (along k) f = option_and_then (λ t. passes here t f) (slice_get (outs here.atn f.state) k)
 step here back f = returned (is_stop here.atn f.state) f f.returns
 
 -- Where a list of such steps leads, if each of them can be made.
 unfoldable pub walk : Here → List Step → Stand → Option Stand
 walk here [] f = Some f
-walk here (x ∷ xs) f = and_then (step here x f) (walk here xs)
+walk here (x ∷ xs) f = option_and_then (walk here xs) (step here x f)
 
 -- Predicates count as open, and what matches the end of the text is silent.
 abbrev pub openly : Atn → Here

@@ -23,7 +23,7 @@ pub invariant_of-goes_round : goal.invariant_of-goes_round
 invariant_of-goes_round c =
     let r = c.args.records.now in
     let known : length (atn_in r).transitions ≤ length c.note_passings.new.passings = omega (arith, few_transitions r, c.requires, c.note_passings.auto.passings) in
-    ((few_states r, few_transitions r), (known, (c.note_passings.ensures, tt)))
+    record { few = (few_states r, few_transitions r); known = known; noted = c.note_passings.ensures }
 
 pub goes_round-requires : goal.goes_round-requires
 goes_round-requires c =

@@ -17,7 +17,7 @@ over-records-requires c =
 pub invariant_of-result : goal.invariant_of-result
 invariant_of-result c =
     let means = atn-meaning c.over-records.result ∙ ap meaning c.over-records.ensures.0 in
-    (subst NoRound (sym means) c.requires.2, tt)
+    record { ends = subst NoRound (sym means) c.requires.2 }
 
 pub returns : goal.returns
 returns c = atn-meaning c.over-records.result ∙ ap meaning c.over-records.ensures.0

@@ -1,6 +1,6 @@
 -- The lines of a recording keep the law of a cut, and no other list of lines does. Assumes nothing.
 use Rattle.std.proofs.Common.{◌≡◌, ℕ, suc, ◌-◌, ◌<◌, Bool, true, false, cond, eqb, List, [], ◌∷◌, ◌++◌, length, get_or, sym, refl, ap, ◌∙◌, append_assoc, arith}
-use Rattle.std.specs.List.{flat_map, AllByRecursion as All}
+use Rattle.std.specs.List.{flat_map, AllByRecursion}
 use Rattle.std.proofs.lemmas.Bool.{eqb-true, eqb-false, ne_eqb, cond_both, cond-false}
 use Rattle.audit.specs.Lines.{Cut, NoFeed, ended, lines_of, onto, with_feed}
 
@@ -34,14 +34,14 @@ joined_lines [] = refl
 joined_lines (b ∷ []) = joined_one b (eqb b 10) (eqb-true b 10)
 joined_lines (b ∷ (c ∷ cs)) = joined_cons b c cs ∙ (ap (λ l. b ∷ l) (joined_lines (c ∷ cs)) ∙ sym (ended_cons b c cs))
 
-onto_feedless : (b : ℕ) (ls : List (List ℕ)) → (b ≡ 10 → ⊥) → All NoFeed ls → All NoFeed (onto b ls)
+onto_feedless : (b : ℕ) (ls : List (List ℕ)) → (b ≡ 10 → ⊥) → AllByRecursion NoFeed ls → AllByRecursion NoFeed (onto b ls)
 onto_feedless b [] other h = ((other, tt), tt)
 onto_feedless b (l ∷ ls) other h = ((other, h.0), h.1)
 
-lines_feedless : (bs : List ℕ) → All NoFeed (lines_of bs)
+lines_feedless : (bs : List ℕ) → AllByRecursion NoFeed (lines_of bs)
 lines_feedless [] = tt
 lines_feedless (b ∷ bs) =
-    cond_both (eqb b 10) ([] ∷ lines_of bs) (onto b (lines_of bs)) (All NoFeed) (λ _. (tt, lines_feedless bs))
+    cond_both (eqb b 10) ([] ∷ lines_of bs) (onto b (lines_of bs)) (AllByRecursion NoFeed) (λ _. (tt, lines_feedless bs))
     (λ e. onto_feedless b (lines_of bs) (eqb-false b 10 e) (lines_feedless bs))
 
 pub cut : (bs : List ℕ) → Cut bs (lines_of bs)
@@ -61,7 +61,7 @@ last_line [] some h = absurd (omega arith)
 last_line (b ∷ []) some h = lines_cons b [] h.0
 last_line (b ∷ (c ∷ l)) some h = lines_cons b (c ∷ l) h.0 ∙ ap (onto b) (last_line (c ∷ l) (omega arith) h.1)
 
-lines_joined : (ls : List (List ℕ)) → All NoFeed ls → lines_of (flat_map with_feed ls) ≡ ls
+lines_joined : (ls : List (List ℕ)) → AllByRecursion NoFeed ls → lines_of (flat_map with_feed ls) ≡ ls
 lines_joined [] h = refl
 lines_joined (l ∷ ls) h =
     ap lines_of (append_assoc l (10 ∷ []) (flat_map with_feed ls))

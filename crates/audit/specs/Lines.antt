@@ -1,6 +1,6 @@
 -- The lines of a recording, a list of bytes. A line feed is the byte 10. Assumes nothing.
 use Rattle.std.specs.Prelude.{◌≡◌, ℕ, ◌-◌, cond, List, [], ◌∷◌, ◌++◌, length, drop, ◌==◌, ◌≢◌, slice_index_or}
-use Rattle.std.specs.List.{flat_map, AllByRecursion as All}
+use Rattle.std.specs.List.{flat_map, AllByRecursion}
 use Rattle.audit.specs.declared.lines.Lines.{Lines}
 
 -- a byte in front of the first line
@@ -15,7 +15,7 @@ lines_of (b ∷ bs) = cond (b == 10) ([] ∷ lines_of bs) (onto b (lines_of bs))
 
 -- a line holds no line feed
 abbrev pub NoFeed : List ℕ → Type 0
-NoFeed = All (λ b. b ≢ 10)
+NoFeed = AllByRecursion (λ b. b ≢ 10)
 
 -- a line with a line feed after it
 abbrev pub with_feed : List ℕ → List ℕ
@@ -27,7 +27,7 @@ ended bs = cond (slice_index_or bs (length bs - 1) 10 == 10) bs (with_feed bs)
 
 -- what it is to be the lines of a recording: none holds a line feed, and with one after each they are the recording, ended
 pub record Cut (bs : List ℕ) (ls : List (List ℕ)) : Type 0 where
-  pub feedless : All NoFeed ls
+  pub feedless : AllByRecursion NoFeed ls
   pub whole : flat_map with_feed ls ≡ ended bs
 
 -- the lines that are still to come

@@ -1,6 +1,6 @@
 -- How a text is cut into words byte by byte, and word by word. Assumes nothing.
 use Rattle.std.proofs.Common.{◌≡◌, ℕ, ◌+◌, ◌-◌, ◌<◌, ◌≤◌, Bool, true, false, List, [], ◌∷◌, ◌++◌, length, get_or, drop, sym, refl, ap, ◌∙◌, subst, ⊎_elim, arith, rules}
-use Rattle.std.specs.List.{between, AllByRecursion as All}
+use Rattle.std.specs.List.{between, AllByRecursion}
 use Rattle.std.proofs.lemmas.List.Edits.{length-between, get_or-between}
 use Rattle.std.proofs.ByRecursion.{All-from_get_or}
 use Rattle.std.proofs.lemmas.List.{take-append-drop, drop-drop, drop_all, drop_more, at_drop_more}
@@ -58,11 +58,11 @@ cut_ended n (b ∷ bs) h = search rules
 cut_ink : (n b : ℕ) (bs : List ℕ) → is_ink b ≡ true → cut_of false n (b ∷ bs) ≡ onto b (cut_of false n bs)
 cut_ink n b bs h = search rules
 
-cut_word : (n : ℕ) (word rest : List ℕ) → All (λ b. is_ink b ≡ true) word → Ended rest → cut_of false n (word ++ rest) ≡ record { front = word; after = words_from false n rest }
+cut_word : (n : ℕ) (word rest : List ℕ) → AllByRecursion (λ b. is_ink b ≡ true) word → Ended rest → cut_of false n (word ++ rest) ≡ record { front = word; after = words_from false n rest }
 cut_word n [] rest h e = cut_ended n rest e
 cut_word n (b ∷ word) rest h e = cut_ink n b (word ++ rest) h.0 ∙ ap (onto b) (cut_word n word rest h.1 e)
 
-first_word : (n : ℕ) (word rest : List ℕ) → 0 < length word → All (λ b. is_ink b ≡ true) word → Ended rest → words_from false n (word ++ rest) ≡ found n word ∷ words_from false n rest
+first_word : (n : ℕ) (word rest : List ℕ) → 0 < length word → AllByRecursion (λ b. is_ink b ≡ true) word → Ended rest → words_from false n (word ++ rest) ≡ found n word ∷ words_from false n rest
 first_word n [] rest some h e = absurd (omega arith)
 first_word n (b ∷ word) rest some h e = ap (words_in n) (cut_word n (b ∷ word) rest h e)
 
@@ -79,7 +79,7 @@ module _ (text : List ℕ) (at end : ℕ) (more : at < length text) (ahead : at 
       absurd (both_ways (is_ink (get_or text end 0)) (ended (omega arith)) (ap (λ k. is_ink (get_or text k 0)) same ∙ ink)))
       (cases_lt at end)
 
-  all_ink : All (λ b. is_ink b ≡ true) (between at end text)
+  all_ink : AllByRecursion (λ b. is_ink b ≡ true) (between at end text)
   all_ink =
       All-from_get_or (λ b. is_ink b ≡ true) (between at end text) 0
       (λ i h.

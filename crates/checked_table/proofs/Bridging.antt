@@ -1,5 +1,5 @@
 -- The silent steps of a table are those of its graph.
-use Rattle.std.proofs.Common.{◌≡◌, ℕ, zero, suc, ◌+◌, ◌-◌, ◌<◌, ◌≤◌, Bool, true, false, cond, ◌&&◌, ltb, ◌⊎◌, List, [], ◌∷◌, length, get_or, take, drop, Some, None, Option, sym, refl, ap, ◌∙◌, subst, inl, inr, ⊎_elim, arith}
+use Rattle.std.proofs.Common.{◌≡◌, ℕ, zero, suc, ◌+◌, ◌-◌, ◌<◌, ◌≤◌, Bool, true, false, cond, ◌&&◌, List, [], ◌∷◌, length, get_or, take, drop, Some, None, Option, sym, refl, ap, ◌∙◌, subst, ⊎_elim, arith}
 use Rattle.std.specs.List.{slice_get}
 use Rattle.std.specs.Option.{option_and_then, option_map_or}
 use mathlib.Core.Option as maybe
@@ -19,7 +19,7 @@ use Rattle.checked_table.specs.declared.parts.TransitionKind.TheVariants.{Epsilo
 use Rattle.image.specs.Numbers.{end_of_text}
 use Rattle.checked_table.specs.Atn.{Atn, state_at, transition_at, outs, stops, is_stop, matches}
 use Rattle.checked_table.specs.Formed.{Formed}
-use Rattle.checked_table.specs.Steps.{Stand, fresh, move_to, note_action, silently, silently_by, Here, passes, returned, step, walk, openly, Round, NoRound, LowestRound}
+use Rattle.checked_table.specs.Steps.{Stand, fresh, move_to, Here, passes, returned, step, walk, openly, Round, NoRound}
 use Rattle.checked_table.specs.Graphs.{passing_of, follow_of, graph_of}
 use Rattle.checked_table.specs.Laws.{StepsFall, RanksFall}
 

@@ -1,14 +1,14 @@
 -- What the records of an image that keeps its rules are.
-use Rattle.std.proofs.Common.{◌≡◌, ℕ, ◌+◌, ◌<◌, ◌≤◌, Bool, true, false, cond, not, ◌&&◌, ◌||◌, eqb, ltb, leb, ◌⊎◌, List, length, ℤ, pos, negsuc, sym, refl, ap, ◌∙◌, subst, inl, inr, arith}
+use Rattle.std.proofs.Common.{◌≡◌, ℕ, ◌+◌, ◌<◌, ◌≤◌, Bool, true, false, cond, not, ◌&&◌, ◌||◌, eqb, leb, ◌⊎◌, List, length, ℤ, pos, negsuc, sym, refl, ap, ◌∙◌, subst, inl, inr, arith}
 use Rattle.std.proofs.lemmas.Bool.{and_parts, leb-true, ltb-true}
 use Rattle.image.specs.declared.raw.RawState.{RawState}
 use Rattle.image.specs.declared.raw.RawTransition.{RawTransition}
 use Rattle.checked_table.specs.declared.records.Records.{Records}
-use Rattle.image.specs.declared.sections.Section.TheVariants.{States, Transitions, Intervals, Modes, Rules, Actions}
-use Rattle.image.specs.declared.sections.Sections.{Sections}
+use Rattle.image.specs.declared.sections.Section.TheVariants.{States, Transitions, Modes, Rules, Actions}
+use Rattle.table.specs.declared.sections.Sections.{Sections}
 use Rattle.image.specs.Numbers.{natural, is, below, same_number, end_of_text, all_of}
 use Rattle.image.specs.Raw.{raw_state, raw_transition, raw_interval, raw_mode, raw_rule, raw_action, counts_before, source_of}
-use Rattle.image.specs.Rules.{kind_and_rule, intervals_there, fields_keep, in_rule, of_kind, call_keeps, stays_in_rule, leaves, may_leave, transition_keeps, mode_keeps, end_keeps, rule_keeps, argument_keeps, same_action, action_keeps}
+use Rattle.image.specs.Rules.{kind_and_rule, intervals_there, fields_keep, in_rule, of_kind, call_keeps, leaves, transition_keeps, mode_keeps, end_keeps, rule_keeps, argument_keeps, same_action, action_keeps}
 use Rattle.image.specs.Spans.{Fits}
 use Rattle.checked_table.specs.declared.parts.TransitionKind.{TransitionKind}
 use Rattle.checked_table.specs.declared.parts.TransitionKind.TheVariants.{Epsilon, Range, Rule, Predicate, Atom, Action, Set, NotSet, Wildcard}

@@ -3,10 +3,12 @@ use Rattle.std.proofs.Common.{◌≡◌, ℕ, List, ℤ, sym, ap, ◌∙◌}
 use Rattle.input.specs.Faults.{notice}
 use Rattle.input.specs.declared.fault.Notice.{Notice}
 use Rattle.input.specs.declared.fault.Part.TheVariants.{Table}
-use Rattle.image.specs.declared.sections.Sections.{Sections}
-use Rattle.image.specs.Spans.{counts_of, sections_of}
+use Rattle.table.specs.declared.sections.Sections.{Sections}
+use Rattle.image.specs.Spans.{sections_of}
+use Rattle.table.specs.Spans.{counts_of}
 use Rattle.image.specs.Keeping.{Breaks}
-use Rattle.image.proofs.Refusals.{lowest_one, breaks_keeps, layout_laid, layout_one}
+use Rattle.image.proofs.Refusals.{lowest_one, breaks_keeps}
+use Rattle.table.proofs.Refusals.{layout_laid, layout_one}
 use Rattle.checked_table.specs.Decoding.{meaning}
 use Rattle.checked_table.specs.Steps.{Round}
 use Rattle.checked_table.specs.Checking.{Keeps, Faulty, layout, «record», round, OneFault}

@@ -1,5 +1,5 @@
 -- Scanning the intervals of a set.
-use Rattle.std.proofs.Common.{◌≡◌, ℕ, suc, ◌+◌, ◌-◌, ◌<◌, Bool, true, false, ◌||◌, List, ◌∷◌, length, get_or, take, drop, ℤ, sym, refl, ap, ◌∙◌, add-one, arith, drop-cons}
+use Rattle.std.proofs.Common.{◌≡◌, ℕ, suc, ◌+◌, ◌-◌, ◌<◌, Bool, true, false, ◌||◌, List, length, take, ℤ, sym, ap, ◌∙◌, add-one, arith, drop-cons}
 use Rattle.image.specs.declared.raw.Interval.{Interval}
 use Rattle.image.specs.Numbers.{between}
 use Rattle.checked_table.specs.Atn.{Atn, interval_at, within, contains}

@@ -3,8 +3,9 @@ use Rattle.std.specs.Prelude.{◌≡◌, ℕ, List, ℤ}
 use Rattle.input.specs.Faults.{notice}
 use Rattle.input.specs.declared.fault.Notice.{Notice}
 use Rattle.input.specs.declared.fault.Part.TheVariants.{Table}
-use Rattle.image.specs.Layout.{Laid, Broken}
-use Rattle.image.specs.Spans.{forms, counts_of, sections_of}
+use Rattle.table.specs.Layout.{Laid, Broken}
+use Rattle.image.specs.Spans.{sections_of}
+use Rattle.table.specs.Spans.{forms, counts_of}
 use Rattle.image.specs.Keeping.{RecordsKeep, BreaksFirst}
 use Rattle.checked_table.specs.Decoding.{meaning}
 use Rattle.checked_table.specs.Steps.{NoRound, LowestRound}

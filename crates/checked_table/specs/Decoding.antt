@@ -1,5 +1,5 @@
 -- What the image of a table means.
-use Rattle.std.specs.Prelude.{ℕ, zero, suc, Bool, cond, List, [], ◌∷◌, ℤ}
+use Rattle.std.specs.Prelude.{ℕ, zero, suc, cond, List, [], ◌∷◌, ℤ}
 use Rattle.checked_table.specs.declared.parts.LexerAction.{LexerAction}
 use Rattle.checked_table.specs.declared.parts.LexerAction.TheVariants.{Channel, Mode, More, PopMode, PushMode, Skip, «Type» as TokenType}
 use Rattle.checked_table.specs.declared.parts.Rule.{Rule}
@@ -12,7 +12,7 @@ use Rattle.checked_table.specs.declared.parts.TransitionKind.TheVariants.{Epsilo
 use Rattle.image.specs.declared.raw.RawState.{RawState}
 use Rattle.image.specs.declared.raw.RawTransition.{RawTransition}
 use Rattle.image.specs.declared.raw.RawRule.{RawRule}
-use Rattle.image.specs.declared.sections.Sections.{Sections}
+use Rattle.table.specs.declared.sections.Sections.{Sections}
 use Rattle.image.specs.Spans.{sections_of}
 use Rattle.image.specs.Numbers.{natural, is}
 use Rattle.image.specs.Raw.{raw_state, raw_transition, raw_interval, raw_mode, raw_rule, raw_action}

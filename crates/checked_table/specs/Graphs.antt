@@ -1,5 +1,5 @@
 -- A table as an automaton of which only the silent steps count, and the measure that they take down.
-use Rattle.std.specs.Prelude.{ℕ, Bool, cond, List, length}
+use Rattle.std.specs.Prelude.{ℕ, cond, length}
 use Rattle.rounds.specs.declared.passing.Passing.{Passing}
 use Rattle.rounds.specs.declared.passing.Passing.TheVariants.{Silent, Call, Reads}
 use Rattle.rounds.specs.Rounds.{Graph}

@@ -4,7 +4,7 @@ use Rattle.rounds.specs.Rounds.{Step, Edge}
 use Rattle.rounds.specs.Rank.{rank}
 use Rattle.checked_table.specs.Atn.{Atn}
 use Rattle.checked_table.specs.Graphs.{graph_of, total}
-use Rattle.checked_table.specs.Steps.{Stand, Here, step}
+use Rattle.checked_table.specs.Steps.{Stand, step}
 
 -- Every step that reads no symbol, whatever the judge says and whether the end of the text is there, takes the total down.
 abbrev pub StepsFall : Atn → Type 0

@@ -1,5 +1,5 @@
 -- What a checked table means.
-use Rattle.checked_table.specs.declared.table.Table.{Table}
+use Rattle.checked_table.specs.declared.checked.Table.{Table}
 use Rattle.checked_table.specs.Atn.{Atn}
 use Rattle.checked_table.specs.Means.{atn_in}
 

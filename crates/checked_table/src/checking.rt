@@ -4,8 +4,9 @@ ghost use Rattle.checked_table.specs.Checking.{Keeps, Faulty};
 
 use crate::records::Records;
 use crate::rounding::lowest_round;
-use image::{Sections, broken_place};
+use image::broken_place;
 use input::Fault;
+use table::Sections;
 
 /// Checks an image: it passes exactly when it keeps the rules of a table, else the first fault is told.
 pub fn check(image: &[i32]) -> Result<(), Fault>

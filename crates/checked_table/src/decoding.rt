@@ -2,10 +2,11 @@ ghost use Rattle.std.specs.Prelude.{◌≡◌, ℕ, ◌+◌, ◌<◌, ◌≤◌,
 ghost use Rattle.checked_table.specs.Decoding.{state_kind_of, state_of, transition_kind_of, transition_of, rule_of, action_of};
 ghost use Rattle.image.specs.Numbers.{natural};
 ghost use Rattle.image.specs.Rules.{fields_keep};
-ghost use Rattle.image.specs.Spans.{Placed};
+ghost use Rattle.image.specs.Spans.{PlacedWithin};
 
 use crate::parts::{LexerAction, Rule, State, StateKind, Transition, TransitionKind};
-use image::{RawAction, RawRule, RawState, RawTransition, Sections};
+use image::{RawAction, RawRule, RawState, RawTransition};
+use table::Sections;
 
 // The number, or 0 where it is below 0.
 pub fn small(x: i32) -> u16
@@ -72,7 +73,7 @@ fn transition_kind_of(s: Sections, kind: i32, p: i32, q: i32) -> TransitionKind
 
 // The transition that four numbers mean.
 pub fn transition_of(s: Sections, r: RawTransition) -> Transition
-    requires { (fields_keep s r.kind r.p r.q ≡ true) × ((Placed s) × (natural r.target < 65536)) }
+    requires { (fields_keep s r.kind r.p r.q ≡ true) × ((PlacedWithin s) × (natural r.target < 65536)) }
     ensures { result ≡ transition_of r }
 {
     Transition {

@@ -1,6 +1,7 @@
 //! Checked tables: what an image means, its check, and access to its records.
 #![tactic(auto)]
 
+mod checked;
 mod checking;
 mod counts;
 mod decoding;
@@ -10,10 +11,9 @@ mod passings;
 mod records;
 mod rounding;
 mod silent;
-mod table;
 
+pub use checked::Table;
 pub use checking::check;
 pub use counts::Counts;
 pub use laws::one_fault_is_told;
 pub use parts::{LexerAction, Rule, State, StateKind, Transition, TransitionKind};
-pub use table::Table;

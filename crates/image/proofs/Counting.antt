@@ -3,7 +3,7 @@ use Rattle.std.proofs.Common.{◌≡◌, ℕ, zero, suc, ◌+◌, ◌-◌, ◌<�
 use Rattle.std.proofs.lemmas.Bool.{le-leb, lt-leb, eq-eqb, and_parts, cases_eq}
 use Rattle.image.specs.declared.raw.RawState.{RawState}
 use Rattle.image.specs.declared.sections.Section.TheVariants.{States}
-use Rattle.image.specs.declared.sections.Sections.{Sections}
+use Rattle.table.specs.declared.sections.Sections.{Sections}
 use Rattle.image.specs.Numbers.{natural}
 use Rattle.image.specs.Raw.{raw_state, counts_before, source_below}
 use Rattle.image.specs.Rules.{numbers_keep, decides, state_keeps}

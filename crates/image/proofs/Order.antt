@@ -3,8 +3,8 @@ use Rattle.std.proofs.Common.{◌≡◌, ℕ, zero, suc, ◌+◌, ◌*◌, ◌<�
 use Rattle.std.proofs.lemmas.Bool.{cases_order, cases_lt}
 use Rattle.image.specs.declared.sections.Section.{Section}
 use Rattle.image.specs.declared.sections.Section.TheVariants.{States, Transitions, Intervals, Modes, Rules, Actions}
-use Rattle.image.specs.declared.sections.Sections.{Sections}
-use Rattle.image.specs.Spans.{order_of, span_of, width_of, Placed}
+use Rattle.table.specs.declared.sections.Sections.{Sections}
+use Rattle.image.specs.Spans.{order_of, span_of, width_of, PlacedWithin}
 use Rattle.image.specs.Rules.{record_keeps}
 use Rattle.image.specs.Keeping.{FirstFailure, KeptBefore, Breaks, BreaksFirst}
 
@@ -29,7 +29,7 @@ section_order Actions = refl
 same_order : (a b : Section) → order_of a ≡ order_of b → a ≡ b
 same_order a b e = sym (section_order a) ∙ (ap section_of e ∙ section_order b)
 
-module _ (s : Sections) (placed : Placed s) where
+module _ (s : Sections) (placed : PlacedWithin s) where
   -- The records of a section end before those of a later one begin.
   section_before : (a b : Section) → order_of a < order_of b → (span_of s a).start + width_of a * (span_of s a).count < (span_of s b).start
   section_before States Transitions h = omega (arith, placed)

@@ -1,7 +1,7 @@
 -- What follows from the rules of the records.
 use Rattle.std.proofs.Common.{◌≡◌, ℕ, ◌+◌, ◌≤◌, Bool, true, false, cond, ◌&&◌, ◌||◌, eqb, leb, ℤ, pos, negsuc, ap, subst, arith}
 use Rattle.std.proofs.lemmas.Bool.{eqb-true, leb-true, and_parts}
-use Rattle.image.specs.declared.sections.Sections.{Sections}
+use Rattle.table.specs.declared.sections.Sections.{Sections}
 use Rattle.image.specs.Numbers.{natural, is, below}
 use Rattle.image.specs.declared.raw.RawState.{RawState}
 use Rattle.image.specs.Rules.{fields_keep, kind_and_rule, flag_keeps, count_keeps, span_keeps, numbers_keep}

@@ -1,25 +1,17 @@
 -- Where sections are.
 use Rattle.std.proofs.Common.{◌≡◌, ℕ, ◌+◌, ◌*◌, List, length, ℤ, pos, sym, refl, ap, ◌∙◌, subst, arith}
-use Rattle.input.specs.declared.fault.Notice.{Notice}
-use Rattle.image.specs.Layout.{Holds, Unheld, Laid, number}
+use Rattle.table.specs.Layout.{Laid, number}
 use Rattle.image.specs.Numbers.{natural}
-use Rattle.image.specs.Spans.{forms, counts_of, Lies, Placed, Fits, span_at, sections_of}
-use Rattle.image.specs.declared.sections.Form.{Form}
+use Rattle.image.specs.Spans.{PlacedWithin, Fits, span_at, sections_of}
+use Rattle.table.specs.Spans.{forms, counts_of, Lies, Placed}
 use Rattle.image.specs.Spots.{Chained, Shaped}
 use Rattle.image.specs.declared.sections.Section.TheVariants.{States, Transitions, Intervals, Modes, Rules, Actions}
-use Rattle.image.specs.declared.sections.Sections.{Sections}
-use Rattle.image.specs.declared.sections.Span.{Span}
-
--- The same section at an index that is written otherwise.
-pub holds_at : {image : List ℤ} {form : Form} {n : ℕ} (from to : ℕ) → from ≡ to → Holds image from form n → Holds image to form n
-holds_at {image} {form} {n} from to e h = subst (λ (p : ℕ). Holds image p form n) e h
-
-pub unheld_at : {image : List ℤ} {form : Form} {told : Notice} (from to : ℕ) → from ≡ to → Unheld image from form told → Unheld image to form told
-unheld_at {image} {form} {told} from to e u = subst (λ (p : ℕ). Unheld image p form told) e u
+use Rattle.table.specs.declared.sections.Sections.{Sections}
+use Rattle.table.specs.declared.sections.Span.{Span}
 
 -- A section whose count stands at an index is the one that is read there.
-span_is : (image : List ℤ) (at width least most : ℕ) (span : Span) → Lies span at width least most → number image at ≡ pos span.count → span ≡ span_at image at width
-span_is image at width least most span lies count =
+span_is : (image : List ℤ) (at width : ℕ) (span : Span) → Lies span at width → number image at ≡ pos span.count → span ≡ span_at image at width
+span_is image at width span lies count =
     let n : span.count ≡ natural (number image at) = sym (ap natural count) in
     let e : span.end ≡ at + 1 + width * natural (number image at) = lies.1 ∙ (λ j. lies.0 j + width * n j) in
     λ j. record { start = lies.0 j; count = n j; end = e j }
@@ -61,17 +53,27 @@ read_chained image s (states, transitions, intervals, modes, rules, actions) =
     (ap start states, ap start transitions, ap start intervals, ap start modes, ap start rules, ap start actions)
 
 module _ (image : List ℤ) (s : Sections) (laid : Laid forms image 0 (counts_of s)) (placed : Placed s) where
+  placed_within : PlacedWithin s
+  placed_within = (
+    (placed.0, laid.0.least, laid.0.most),
+    (placed.1, laid.1.0.least, laid.1.0.most),
+    (placed.2, laid.1.1.0.least, laid.1.1.0.most),
+    (placed.3, laid.1.1.1.0.least, laid.1.1.1.0.most),
+    (placed.4, laid.1.1.1.1.0.least, laid.1.1.1.1.0.most),
+    (placed.5, laid.1.1.1.1.1.0.least, laid.1.1.1.1.1.0.most),
+  )
+
   pub sections_fit : Fits s (length image)
-  sections_fit = (placed, omega (arith, laid.1.1.1.1.1.1, placed))
+  sections_fit = (placed_within, omega (arith, laid.1.1.1.1.1.1, placed))
 
   pub sections_are : s ≡ sections_of image
   sections_are =
       let moved : (x y n : ℕ) → number image x ≡ pos n → x ≡ y → number image y ≡ pos n = λ x y n h e. sym (ap (number image) e) ∙ h in
       read_sections image s (
-        span_is image 0 5 1 4096 s.states placed.0 laid.0.count,
-        span_is image s.states.end 4 0 16384 s.transitions placed.1 (moved _ _ _ laid.1.0.count (omega (arith, placed))),
-        span_is image s.transitions.end 2 0 8192 s.intervals placed.2 (moved _ _ _ laid.1.1.0.count (omega (arith, placed))),
-        span_is image s.intervals.end 1 1 64 s.modes placed.3 (moved _ _ _ laid.1.1.1.0.count (omega (arith, placed))),
-        span_is image s.modes.end 3 1 512 s.rules placed.4 (moved _ _ _ laid.1.1.1.1.0.count (omega (arith, placed))),
-        span_is image s.rules.end 2 0 256 s.actions placed.5 (moved _ _ _ laid.1.1.1.1.1.0.count (omega (arith, placed))),
+        span_is image 0 5 s.states placed.0 laid.0.count,
+        span_is image s.states.end 4 s.transitions placed.1 (moved _ _ _ laid.1.0.count (omega (arith, placed))),
+        span_is image s.transitions.end 2 s.intervals placed.2 (moved _ _ _ laid.1.1.0.count (omega (arith, placed))),
+        span_is image s.intervals.end 1 s.modes placed.3 (moved _ _ _ laid.1.1.1.0.count (omega (arith, placed))),
+        span_is image s.modes.end 3 s.rules placed.4 (moved _ _ _ laid.1.1.1.1.0.count (omega (arith, placed))),
+        span_is image s.rules.end 2 s.actions placed.5 (moved _ _ _ laid.1.1.1.1.1.0.count (omega (arith, placed))),
       )

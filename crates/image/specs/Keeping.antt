@@ -1,7 +1,7 @@
 -- Which record of an image is the first to break a rule.
 use Rattle.std.specs.Prelude.{◌≡◌, ℕ, ◌+◌, ◌*◌, ◌<◌, ◌≤◌, Bool, true, false, List, ℤ, Some, None, Option}
 use Rattle.image.specs.declared.sections.Section.{Section}
-use Rattle.image.specs.declared.sections.Sections.{Sections}
+use Rattle.table.specs.declared.sections.Sections.{Sections}
 use Rattle.image.specs.Spans.{order_of, span_of, width_of}
 use Rattle.image.specs.Rules.{record_keeps}
 

@@ -1,4 +1,3 @@
-pub mod Layout
 pub mod Spans
 pub mod Numbers
 pub mod Raw

@@ -5,8 +5,8 @@ use Rattle.image.specs.declared.raw.RawState.{RawState}
 use Rattle.image.specs.declared.raw.RawTransition.{RawTransition}
 use Rattle.image.specs.declared.raw.RawRule.{RawRule}
 use Rattle.image.specs.declared.raw.RawAction.{RawAction}
-use Rattle.image.specs.declared.sections.Sections.{Sections}
-use Rattle.image.specs.Layout.{number}
+use Rattle.table.specs.declared.sections.Sections.{Sections}
+use Rattle.table.specs.Layout.{number}
 use Rattle.image.specs.Numbers.{natural}
 
 abbrev pub state_from : List ℤ → ℕ → RawState

@@ -4,7 +4,7 @@ use Rattle.image.specs.declared.raw.RawState.{RawState}
 use Rattle.image.specs.declared.raw.RawTransition.{RawTransition}
 use Rattle.image.specs.declared.sections.Section.{Section}
 use Rattle.image.specs.declared.sections.Section.TheVariants.{States, Transitions, Intervals, Modes, Rules, Actions}
-use Rattle.image.specs.declared.sections.Sections.{Sections}
+use Rattle.table.specs.declared.sections.Sections.{Sections}
 use Rattle.image.specs.Numbers.{natural, is, below, same_number, end_of_text, is_label, all_of}
 use Rattle.image.specs.Raw.{raw_state, raw_transition, raw_interval, raw_mode, raw_rule, raw_action, counts_before, source_of}
 

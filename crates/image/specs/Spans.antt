@@ -1,19 +1,12 @@
--- The six sections and where their records are.
-use Rattle.std.specs.Prelude.{◌≡◌, ℕ, ◌+◌, ◌*◌, ◌≤◌, List, [], ◌∷◌, ℤ}
-use Rattle.image.specs.declared.sections.Form.{Form}
+-- The six sections by name, and the limits of their counts.
+use Rattle.std.specs.Prelude.{◌≡◌, ℕ, ◌+◌, ◌*◌, ◌≤◌, List, ℤ}
 use Rattle.image.specs.declared.sections.Section.{Section}
 use Rattle.image.specs.declared.sections.Section.TheVariants.{States, Transitions, Intervals, Modes, Rules, Actions}
-use Rattle.image.specs.declared.sections.Sections.{Sections}
-use Rattle.image.specs.declared.sections.Span.{Span}
-use Rattle.image.specs.Layout.{number}
+use Rattle.table.specs.declared.sections.Sections.{Sections}
+use Rattle.table.specs.declared.sections.Span.{Span}
+use Rattle.table.specs.Layout.{number}
+use Rattle.table.specs.Spans.{Lies}
 use Rattle.image.specs.Numbers.{natural}
-
-abbrev form : ℕ → ℕ → ℕ → Form
-form width least most = record { width = width; least = least; most = most }
-
--- states, transitions, intervals, modes, rules and actions: how many numbers a record has, and the limits of the count
-abbrev pub forms : List Form
-forms = form 5 1 4096 ∷ form 4 0 16384 ∷ form 2 0 8192 ∷ form 1 1 64 ∷ form 3 1 512 ∷ form 2 0 256 ∷ []
 
 -- Which section comes first, second and so on.
 abbrev pub order_of : Section → ℕ
@@ -41,27 +34,23 @@ width_of Modes = 1
 width_of Rules = 3
 width_of Actions = 2
 
-abbrev pub counts_of : Sections → List ℕ
-counts_of s = s.states.count ∷ s.transitions.count ∷ s.intervals.count ∷ s.modes.count ∷ s.rules.count ∷ s.actions.count ∷ []
+-- the records of a section lie after the count at an index, and are so many at least and at most
+abbrev pub LiesWithin : Span → ℕ → ℕ → ℕ → ℕ → Type 0
+LiesWithin span at width least most = Lies span at width × (least ≤ span.count) × (span.count ≤ most)
 
--- the records of a section, of so many numbers each, begin after the count at an index, end after the last, and are so many at least and at most
-abbrev pub Lies : Span → ℕ → ℕ → ℕ → ℕ → Type 0
-Lies span at width least most =
-    (span.start ≡ at + 1) × (span.end ≡ span.start + width * span.count) × (least ≤ span.count) × (span.count ≤ most)
-
--- the count of the first section stands at 0, and that of each other after the records before it
-abbrev pub Placed : Sections → Type 0
-Placed s =
-    Lies s.states 0 5 1 4096
-    × Lies s.transitions s.states.end 4 0 16384
-    × Lies s.intervals s.transitions.end 2 0 8192
-    × Lies s.modes s.intervals.end 1 1 64
-    × Lies s.rules s.modes.end 3 1 512
-    × Lies s.actions s.rules.end 2 0 256
+-- the sections follow one another from index 0 on, and each count is within its limits
+abbrev pub PlacedWithin : Sections → Type 0
+PlacedWithin s =
+    LiesWithin s.states 0 5 1 4096
+    × LiesWithin s.transitions s.states.end 4 0 16384
+    × LiesWithin s.intervals s.transitions.end 2 0 8192
+    × LiesWithin s.modes s.intervals.end 1 1 64
+    × LiesWithin s.rules s.modes.end 3 1 512
+    × LiesWithin s.actions s.rules.end 2 0 256
 
 -- so placed, the sections end with an image of that size
 abbrev pub Fits : Sections → ℕ → Type 0
-Fits s size = Placed s × (s.actions.end ≡ size)
+Fits s size = PlacedWithin s × (s.actions.end ≡ size)
 
 -- the section whose count stands at an index
 abbrev pub span_at : List ℤ → ℕ → ℕ → Span

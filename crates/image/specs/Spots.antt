@@ -1,7 +1,7 @@
 -- Where in an image an index is, and which spot a fault is about.
 use Rattle.std.specs.Prelude.{◌≡◌, ℕ, ◌+◌, ◌*◌, ◌<◌, ◌≤◌}
 use Rattle.image.specs.declared.sections.Section.{Section}
-use Rattle.image.specs.declared.sections.Sections.{Sections}
+use Rattle.table.specs.declared.sections.Sections.{Sections}
 use Rattle.image.specs.declared.spot.Spot.{Spot}
 use Rattle.image.specs.declared.spot.Spot.TheVariants.{Count, Record, Past}
 use Rattle.image.specs.Spans.{span_of, width_of}

@@ -8,7 +8,8 @@ ghost use Rattle.image.specs.declared.sections.Section.TheVariants.{States, Tran
 use crate::deciding::{action_keeps, state_keeps};
 use crate::reading::raw_state;
 use crate::rules::{count_of, interval_keeps, mode_keeps, rule_keeps, transition_keeps};
-use crate::sections::{Section, Sections};
+use crate::sections::{Section, place_of, span_of};
+use table::Sections;
 
 // The first state that breaks a rule.
 fn broken_state(image: &[i32], s: Sections) -> Option<usize>
@@ -84,7 +85,7 @@ fn broken_late_record(image: &[i32], s: Sections, section: Section) -> Option<us
     requires { (Fits s (length image.now)) × (Late section) }
     ensures { FirstFailure (record_keeps image.now s section) (span_of s section).count result }
 {
-    let span = s.span(section);
+    let span = span_of(s, section);
     for k in 0..span.count {
         if !late_record_keeps(image, s, section, k) {
             return Some(k);
@@ -113,7 +114,7 @@ pub fn broken_place(image: &[i32], s: Sections) -> Option<usize>
     for i in 0..6 {
         let section = Section::of_order(i);
         if let Some(k) = broken_record(image, s, section) {
-            return Some(s.place(section, k));
+            return Some(place_of(s, section, k));
         }
     }
     None

@@ -10,7 +10,7 @@ use crate::rules::{
     action_argument_keeps, count_keeps, count_of, flag_keeps, is_silent, kind_and_rule,
     same_action, same_target, span_keeps,
 };
-use crate::sections::Sections;
+use table::Sections;
 
 // Does transition t read no symbol, and has it another target than those before it, from `first` on?
 fn may_decide(image: &[i32], s: Sections, first: usize, t: usize) -> bool

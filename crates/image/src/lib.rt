@@ -10,12 +10,10 @@ mod rules;
 mod sections;
 mod spot;
 mod spotting;
-#[cfg(test)]
-mod tests;
 
 pub use breaking::broken_place;
 pub use raw::{Interval, RawAction, RawRule, RawState, RawTransition};
 pub use reading::{raw_action, raw_interval, raw_mode, raw_rule, raw_state, raw_transition};
-pub use sections::{Section, Sections, Span};
+pub use sections::{Section, place_of, span_of};
 pub use spot::Spot;
 pub use spotting::spot_at;

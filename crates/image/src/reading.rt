@@ -3,7 +3,7 @@ ghost use Rattle.image.specs.Raw.{raw_state, raw_transition, raw_interval, raw_m
 ghost use Rattle.image.specs.Spans.{Fits};
 
 use crate::raw::{Interval, RawAction, RawRule, RawState, RawTransition};
-use crate::sections::Sections;
+use table::Sections;
 
 // The numbers of state k.
 pub fn raw_state(image: &[i32], s: Sections, k: usize) -> RawState

@@ -7,7 +7,7 @@ ghost use Rattle.image.specs.Spans.{Fits};
 
 use crate::raw::{RawState, RawTransition};
 use crate::reading::{raw_action, raw_interval, raw_mode, raw_rule, raw_state, raw_transition};
-use crate::sections::Sections;
+use table::Sections;
 
 // Is it 0 or above, and below n?
 fn is_below(x: i32, n: usize) -> bool

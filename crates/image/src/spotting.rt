@@ -1,11 +1,12 @@
 ghost use Rattle.std.specs.Prelude.{◌≡◌, ℕ, ◌+◌, ◌*◌, ◌<◌, ◌≤◌, Some, None, MatchOption};
-ghost use Rattle.image.specs.Layout.{number};
+ghost use Rattle.table.specs.Layout.{number};
 ghost use Rattle.image.specs.Numbers.{natural};
 ghost use Rattle.image.specs.Spans.{span_at, span_of, width_of, sections_of};
 ghost use Rattle.image.specs.Spots.{Chained, Shaped, Lying};
 
-use crate::sections::{Section, Sections, Span};
+use crate::sections::{Section, span_of};
 use crate::spot::Spot;
+use table::{Sections, Span};
 
 // The count at an index; 0 where it is below 0, or none stands there.
 fn count_at(image: &[i32], at: usize) -> usize
@@ -75,7 +76,7 @@ fn spot_in(s: Sections, section: Section, at: usize) -> Option<Spot>
     requires { (Shaped s) × ((span_of s section).start ≤ at + 1) }
     ensures { MatchOption result ((span_of s section).end ≤ at) (Lying s at) }
 {
-    let span = s.span(section);
+    let span = span_of(s, section);
     if at < span.start {
         return Some(Spot::Count(section));
     }

@@ -1,1 +1,2 @@
 pub mod Sectioning
+pub mod Refusals

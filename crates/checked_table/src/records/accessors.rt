@@ -10,9 +10,8 @@ use crate::counts::Counts;
 use crate::decoding::{action_of, rule_of, small, state_of, transition_of};
 use crate::parts::{LexerAction, Rule, State, Transition, TransitionKind};
 use crate::records::Records;
-use image::{
-    Interval, Sections, raw_action, raw_interval, raw_mode, raw_rule, raw_state, raw_transition,
-};
+use image::{Interval, raw_action, raw_interval, raw_mode, raw_rule, raw_state, raw_transition};
+use table::Sections;
 
 impl<'a> Records<'a> {
     /// The records of an image that were found to keep their rules.

@@ -1,13 +1,13 @@
 use Rattle.std.proofs.Common.{List, ℤ, refl, ap, ◌∙◌, subst}
 use Rattle.std.proofs.lemmas.Result.{err_from_is_err_and}
-use Rattle.image.specs.declared.sections.Sections.{Sections}
-use Rattle.image.specs.Layout.{Laid}
-use Rattle.image.specs.Spans.{forms, counts_of, sections_of, Placed}
+use Rattle.table.specs.declared.sections.Sections.{Sections}
+use Rattle.table.specs.Layout.{Laid}
+use Rattle.table.specs.Spans.{forms, counts_of, Placed}
 use Rattle.image.specs.Keeping.{RecordsKeep, BreaksFirst}
 use Rattle.checked_table.specs.Atn.{Atn}
 use Rattle.checked_table.specs.Decoding.{meaning}
 use Rattle.checked_table.specs.Steps.{NoRound, LowestRound}
-use Rattle.checked_table.specs.Checking.{LaidOut, Faulty, layout, «record», round}
+use Rattle.checked_table.specs.Checking.{LaidOut, layout, «record», round}
 use Rattle.checked_table.proofs.Holding.{atn-meaning}
 use Rattle.checked_table.proofs.Judging.{faulty_breaks}
 use Rattle.image.proofs.Sectioning.{sections_fit, sections_are}

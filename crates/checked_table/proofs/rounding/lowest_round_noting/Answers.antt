@@ -1,4 +1,4 @@
-use Rattle.std.proofs.Common.{ℕ, ◌<◌, ◌≤◌, length, Some, None, Option, arith, MatchOption}
+use Rattle.std.proofs.Common.{ℕ, ◌≤◌, length, Some, None, Option, arith, MatchOption}
 use Rattle.rounds.specs.Rounds as graphs
 use Rattle.checked_table.specs.declared.records.Records.{Records}
 use Rattle.checked_table.specs.Graphs.{graph_of}

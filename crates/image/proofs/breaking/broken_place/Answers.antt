@@ -9,4 +9,4 @@ returns-in-Some c =
     let s = c.args.s in
     let section = c.of_order-section.result in
     let first = first_place s c.requires.0 image section c.in-Some.k c.in-Some.ensures (λ earlier h. c.loop-i.invariant earlier (omega (arith, h, c.of_order-section.ensures))) in
-    subst (λ (at : ℕ). BreaksFirst image s at) (sym c.place.ensures) first
+    subst (λ (at : ℕ). BreaksFirst image s at) (sym c.place_of.ensures) first

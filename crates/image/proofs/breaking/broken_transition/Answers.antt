@@ -43,4 +43,4 @@ returns c t h =
     let image = c.args.image.now in
     let s = c.args.s in
     let last : c.loop-k.k ≡ s.states.count = omega (arith, c.loop-k.auto.k-end) in
-    c.loop-k.invariant.2 t (omega (arith, c.loop-k.invariant.0, counts_all image s c.requires.0.0.0.2 c.requires.1, ap (counts_before image s) last))
+    c.loop-k.invariant.2 t (omega (arith, c.loop-k.invariant.0, counts_all image s c.requires.0.0.0.1 c.requires.1, ap (counts_before image s) last))

@@ -1,5 +1,5 @@
 use Rattle.std.proofs.Common.{◌≡◌, ◌+◌, ◌*◌, ap, arith, rules}
-use Rattle.image.specs.Layout.{number}
+use Rattle.table.specs.Layout.{number}
 use Rattle.image.proofs.Slices.{part_number}
 use Rattle.image.proofs.reading.raw_state.Goals as goal
 

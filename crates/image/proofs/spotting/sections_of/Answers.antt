@@ -1,4 +1,4 @@
-use Rattle.image.specs.declared.sections.Sections.{Sections}
+use Rattle.table.specs.declared.sections.Sections.{Sections}
 use Rattle.image.proofs.Sectioning.{ReadFrom, read_sections, read_chained, read_shaped}
 use Rattle.image.proofs.spotting.sections_of.Goals as goal
 

@@ -1,4 +1,4 @@
-use Rattle.std.proofs.Common.{◌≡◌, ◌<◌, sym, ap, ◌∙◌, subst, arith}
+use Rattle.std.proofs.Common.{◌<◌, sym, ap, ◌∙◌, subst, arith}
 use Rattle.image.specs.declared.raw.RawAction.{RawAction}
 use Rattle.checked_table.specs.Decoding.{action_of}
 use Rattle.image.specs.Numbers.{natural}

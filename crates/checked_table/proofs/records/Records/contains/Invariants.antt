@@ -1,4 +1,4 @@
-use Rattle.std.proofs.Common.{◌≡◌, ℕ, ◌+◌, ◌-◌}
+use Rattle.std.proofs.Common.{◌≡◌, ◌+◌, ◌-◌}
 use Rattle.checked_table.specs.Atn.{contains}
 use Rattle.checked_table.specs.Means.{atn_in}
 use Rattle.checked_table.proofs.records.Records.contains.Given as goal

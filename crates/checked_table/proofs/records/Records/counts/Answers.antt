@@ -12,6 +12,6 @@ returns c =
       modes = sym (modes_are r);
       rules = sym (rules_are r);
       actions = sym (actions_are r);
-      least = (r.states.2, r.modes.2, r.rules.2);
-      most = (r.states.3, r.transitions.3, r.intervals.3, r.modes.3, r.rules.3, r.actions.3);
+      least = (r.states.1, r.modes.1, r.rules.1);
+      most = (r.states.2, r.transitions.2, r.intervals.2, r.modes.2, r.rules.2, r.actions.2);
     }

@@ -1,4 +1,4 @@
-use Rattle.std.proofs.Common.{◌≡◌, sym, ap, ◌∙◌, subst, arith}
+use Rattle.std.proofs.Common.{sym, ◌∙◌, arith}
 use Rattle.checked_table.proofs.Holding.{fits_of, intervals_are, interval_is}
 use Rattle.checked_table.proofs.records.Records.interval.Goals as goal
 

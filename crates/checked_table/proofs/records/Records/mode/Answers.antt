@@ -1,4 +1,4 @@
-use Rattle.std.proofs.Common.{◌≡◌, sym, ap, ◌∙◌, subst, arith, w32}
+use Rattle.std.proofs.Common.{sym, ap, ◌∙◌, arith, w32}
 use Rattle.std.proofs.lemmas.Int.{to_z-of_z}
 use Rattle.image.specs.Numbers.{natural}
 use Rattle.checked_table.proofs.Holding.{fits_of, mode_small, modes_are, mode_is}

@@ -1,4 +1,4 @@
-use Rattle.std.proofs.Common.{◌≡◌, ◌<◌, sym, ap, ◌∙◌, subst, arith}
+use Rattle.std.proofs.Common.{◌<◌, sym, ap, ◌∙◌, subst, arith}
 use Rattle.image.specs.declared.raw.RawRule.{RawRule}
 use Rattle.image.specs.Numbers.{natural}
 use Rattle.checked_table.specs.Decoding.{rule_of}

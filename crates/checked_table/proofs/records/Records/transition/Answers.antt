@@ -6,7 +6,7 @@ use Rattle.checked_table.specs.Atn.{SetFits}
 use Rattle.checked_table.specs.Decoding.{transition_of}
 use Rattle.checked_table.specs.Means.{atn_in}
 use Rattle.image.specs.Rules.{fields_keep}
-use Rattle.image.specs.Spans.{Placed}
+use Rattle.image.specs.Spans.{PlacedWithin}
 use Rattle.checked_table.proofs.Holding.{fits_of, transition_fields, transition_target, transition_set, transitions_are, transition_is}
 use Rattle.checked_table.proofs.records.Records.transition.Goals as goal
 
@@ -19,7 +19,7 @@ transition_of-requires c =
     let t = c.args.t in
     let here : t < r.sections.transitions.count = omega (arith, transitions_are r, c.requires) in
     let target = transition_target r t here in
-    subst (λ (x : RawTransition). (fields_keep r.sections x.kind x.p x.q ≡ true) × (Placed r.sections × (natural x.target < 65536))) (sym c.raw_transition-r.ensures)
+    subst (λ (x : RawTransition). (fields_keep r.sections x.kind x.p x.q ≡ true) × (PlacedWithin r.sections × (natural x.target < 65536))) (sym c.raw_transition-r.ensures)
     (transition_fields r t here, ((fits_of r).0, omega (arith, target, r.states)))
 
 pub returns : goal.returns

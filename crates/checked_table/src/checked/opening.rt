@@ -3,9 +3,9 @@ ghost use Rattle.checked_table.specs.Decoding.{meaning};
 ghost use Rattle.checked_table.specs.Tables.{atn};
 ghost use Rattle.std.specs.Prelude.{◌≡◌};
 
+use crate::checked::Table;
 use crate::records::Records;
-use crate::table::Table;
-use image::Sections;
+use table::Sections;
 
 impl<'a> Table<'a> {
     /// The table that an image means. The image has passed its check.

@@ -3,7 +3,7 @@ ghost use Rattle.checked_table.specs.Laws.{StepsFall, RanksFall};
 ghost use Rattle.checked_table.specs.Steps.{NoRound};
 ghost use Rattle.checked_table.specs.Tables.{atn};
 
-use crate::table::Table;
+use crate::checked::Table;
 
 impl Table<'_> {
     /// What holds of every table: its parts fit together, no state goes round, and there are ranks and a measure

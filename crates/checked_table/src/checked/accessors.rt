@@ -3,9 +3,9 @@ ghost use Rattle.checked_table.specs.Atn.{state_at, transition_at, mode_at, rule
 ghost use Rattle.checked_table.specs.Counts.{Counted};
 ghost use Rattle.checked_table.specs.Tables.{atn};
 
+use crate::checked::Table;
 use crate::counts::Counts;
 use crate::parts::{LexerAction, Rule, State, Transition, TransitionKind};
-use crate::table::Table;
 
 impl Table<'_> {
     /// How many records of each kind there are.

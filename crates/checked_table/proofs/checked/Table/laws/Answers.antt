@@ -1,7 +1,7 @@
 use Rattle.checked_table.specs.Means.{atn_in}
 use Rattle.checked_table.proofs.Holding.{formed}
 use Rattle.checked_table.proofs.Bridging.{ranks_fall_lem, steps_fall_lem}
-use Rattle.checked_table.proofs.table.Table.laws.Goals as goal
+use Rattle.checked_table.proofs.checked.Table.laws.Goals as goal
 
 pub returns : goal.returns
 returns c =

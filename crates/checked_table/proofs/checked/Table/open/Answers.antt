@@ -1,11 +1,11 @@
 use Rattle.std.proofs.Common.{sym, ap, ◌∙◌, subst}
-use Rattle.image.specs.declared.sections.Sections.{Sections}
+use Rattle.table.specs.declared.sections.Sections.{Sections}
 use Rattle.image.specs.Keeping.{RecordsKeep}
 use Rattle.checked_table.specs.Decoding.{meaning}
 use Rattle.checked_table.specs.Steps.{NoRound}
 use Rattle.checked_table.proofs.Holding.{atn-meaning}
 use Rattle.image.proofs.Sectioning.{sections_fit, sections_are}
-use Rattle.checked_table.proofs.table.Table.open.Goals as goal
+use Rattle.checked_table.proofs.checked.Table.open.Goals as goal
 
 pub over-records-requires : goal.over-records-requires
 over-records-requires c =

@@ -1,40 +1,14 @@
 #!/usr/bin/env python3
-"""Writes the sample recording, the batch of commands, and what it must print.
+"""Writes the sample batch of commands, the files that it names, and what it must print.
 
-What is expected of a text comes from Python's own strict UTF-8 decoder and the
-limit of 1,048,576 bytes, and what is expected of a table from the checker in
-tables.py; never from the program. Run it in the repository's top folder, after
-`tables.py samples`.
+What is expected of a text comes from sample.py, and what is expected of a table
+from the checker in tables.py; never from the program. Run it in the
+repository's top folder, after `tables.py samples`.
 """
 import pathlib
 
 import tables
-
-LIMIT = 1_048_576
-
-LINES = [
-    b"Ada scored 12400 at seat 3",
-    "Ζωή: θέση 5, 9870 πόντοι".encode(),
-    "Юрий: место 2, 15020 очков".encode(),
-    "ليلى: المقعد ٧".encode(),
-    "अनन्या: सीट १, ८८०० अंक".encode(),
-    "지우: 4번 자리, 7310점".encode(),
-    "小明：第六席，一万二千分".encode(),
-    "𐌲𐌿𐍄𐌹𐍃𐌺: 🕹 🎮".encode(),
-    b"",
-    b"carriage return at the end\r",
-    bytes([0xC0, 0x80]),
-    bytes([0xED, 0xA0, 0x80]),
-    b"good so far \xf4\x90\x80\x80 and no further",
-    b"cut off \xe2\x82",
-    b"\x80 a tail alone",
-    b"\xef\xbb\xbfsignature bytes are a symbol",
-    b"a" * (LIMIT + 1),
-    "the last line has no line feed ✓".encode(),
-]
-
-SYMBOL = "not a symbol, or not well-formed UTF-8"
-LONG = "longer than 1048576 numbers or bytes"
+from sample import LINES, report
 
 USAGE = """\
 scoreline audit FILE      says of each line of FILE how many symbols it has, or why it is refused
@@ -42,17 +16,6 @@ scoreline time FILE       walks FILE as one text, and says how long a symbol tak
 scoreline check TABLE...  says of each TABLE, a file of numbers, how many records it has, or why it is refused
 scoreline batch FILE      carries out each line of FILE as a command
 scoreline help            prints this"""
-
-
-def report(line):
-    """What is to be said of a line, and how many symbols it has (None: refused)."""
-    if len(line) > LIMIT:
-        return f"refused 8 at {LIMIT} in text: {LONG}", None
-    try:
-        symbols = len(line.decode("utf-8", "strict"))
-    except UnicodeDecodeError as error:
-        return f"refused 7 at {error.start} in text: {SYMBOL}", None
-    return f"{symbols} symbols, {len(line)} bytes", symbols
 
 
 def audit(lines):

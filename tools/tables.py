@@ -1570,7 +1570,7 @@ CHANGES = [
 # What is to be said of some images.
 LINES = [
     (SMALL, "passes: 6 states, 5 transitions, 1 intervals, 1 modes, 2 rules, 1 actions"),
-    ([], f"refused 1 at 0 in table: {FAULTS[1]}: count of states"),
+    ([], "holds no number"),
     (SMALL[:1], f"refused 1 at 1 in table: {FAULTS[1]}: state 0"),
     (SMALL[:30], f"refused 1 at 30 in table: {FAULTS[1]}: state 5"),
     (SMALL[:31], f"refused 1 at 31 in table: {FAULTS[1]}: count of transitions"),

@@ -1,14 +1,20 @@
 -- What the marks of `mark_exits` mean.
-use Rattle.std.proofs.Common.{◌≡◌, ℕ, ◌<◌, Bool, true, false, cond, not, ◌⊎◌, List, [], ◌∷◌, length, get_or, set, replicate, sym, refl, ap, ◌∙◌, subst, inl, inr, ⊎_elim, arith, get_or-set_other}
-use lib.ListN.{length-replicate}
-use Rattle.std.proofs.lemmas.List.{get_or_past, get_or-replicate}
-use Rattle.std.proofs.lemmas.List.Sums.{sum_by-set}
-use Rattle.std.proofs.lemmas.Bool.{and_parts, and_from, both_ways, cases_eq, cases_lt}
+use Rattle.std.proofs.Common.{◌≡◌, ℕ, Bool, true, List, [], ◌∷◌, get_or, set, replicate, sym, refl, subst, inl, inr, ⊎_elim, arith, rules, tests}
+use Rattle.std.proofs.lemmas.Grind.{common_steps}
+use Rattle.std.proofs.lemmas.Bool.{cases_eq}
 use Rattle.rounds.specs.declared.passing.Passing.{Passing}
 use Rattle.rounds.specs.declared.passing.Passing.TheVariants.{Silent, Call, Reads}
 use Rattle.rounds.specs.Rounds.{Graph, Sound, Of, Exits}
-use Rattle.rounds.specs.Marks.{mark, opens_by, opened, Due, Justified, Closed, Exact, unmarked}
+use Rattle.rounds.specs.Marks.{mark, opens_by, opened, Due, Closed}
 use Rattle.rounds.proofs.Walks.{Goes, moves, calls, leaves, Trail, here, next, exits_trail, exits_stop, exits_move, exits_call}
+
+-- What is marked exits.
+abbrev pub Justified : Graph → List Bool → Type 0
+Justified g marks = (s : ℕ) → mark marks s ≡ true → Exits g s
+
+-- A state is marked exactly when it exits.
+abbrev pub Exact : Graph → List Bool → Type 0
+Exact g marks = (s : ℕ) → (mark marks s ≡ true → Exits g s) × (Exits g s → mark marks s ≡ true)
 
 module _ (g : Graph) (marks : List Bool) where
   opened_exits : Justified g marks → (s t : ℕ) → Of g s t → opened g marks t ≡ true → Exits g s
@@ -16,21 +22,16 @@ module _ (g : Graph) (marks : List Bool) where
     where
       go : (k : Passing) → g.passing t ≡ k → opens_by g marks t k ≡ true → Exits g s
       go Silent k e = exits_move g t h k (r (g.target t) e)
-      go Call k e =
-          let p = and_parts (mark marks (g.target t)) (mark marks (g.return_state t)) e in
-          exits_call g t h k (r (g.target t) p.0) (r (g.return_state t) p.1)
-      go Reads k e = absurd (both_ways false refl e)
+      go Call k e = search (rules, tests, exits_call g t h k, r)
+      go Reads k e = cc
 
   pub due_exits : Justified g marks → (s : ℕ) → Due g marks s → Exits g s
   due_exits r s (inl h) = exits_stop g h
   due_exits r s (inr h) = opened_exits r s h.0 h.1 h.2
 
   pub justified_set : Justified g marks → (s : ℕ) → Exits g s → Justified g (set marks s true)
-  justified_set r s e k m = go (cases_eq k s)
-    where
-      go : (k ≡ s) ⊎ (k ≡ s → ⊥) → Exits g k
-      go (inl i) = subst (λ (x : ℕ). Exits g x) (sym i) e
-      go (inr i) = r k (sym (get_or-set_other marks s k true false i) ∙ m)
+  justified_set r s e k m =
+      ⊎_elim (λ (i : k ≡ s). rw i e) (λ (i : k ≡ s → ⊥). r k (grind (arith, common_steps))) (cases_eq k s)
 
 -- Every one of the states is marked.
 abbrev AllMarked : List Bool → List ℕ → Type 0
@@ -42,13 +43,10 @@ module _ (g : Graph) (marks : List Bool) (sound : Sound g) (closed : Closed g ma
   mark_stop s h = closed s (sound.stops s h) (inl h)
 
   mark_move : (t s : ℕ) → Of g s t → g.passing t ≡ Silent → mark marks (g.target t) ≡ true → mark marks s ≡ true
-  mark_move t s h k m =
-      closed s (sound.owns s t h) (inr (t, h, subst (λ (x : Passing). opens_by g marks t x ≡ true) (sym k) m))
+  mark_move t s h k m = closed s (sound.owns s t h) (inr (t, h, rw k m))
 
   mark_call : (t s : ℕ) → Of g s t → g.passing t ≡ Call → mark marks (g.target t) ≡ true → mark marks (g.return_state t) ≡ true → mark marks s ≡ true
-  mark_call t s h k m n =
-      closed s (sound.owns s t h)
-      (inr (t, h, subst (λ (x : Passing). opens_by g marks t x ≡ true) (sym k) (and_from _ _ m n)))
+  mark_call t s h k m n = closed s (sound.owns s t h) (inr (t, h, rw k (search (rules, tests))))
 
   marked_goes : {s : ℕ} {rs : List ℕ} {q : ℕ} {us : List ℕ} → Goes g s rs q us → AllMarked marks (q ∷ us) → AllMarked marks (s ∷ rs)
   marked_goes {s} {rs} {q} {us} (moves t h k e f) a =
@@ -73,12 +71,6 @@ module _ (g : Graph) (marks : List Bool) (sound : Sound g) (closed : Closed g ma
 pub exact_from : (g : Graph) (marks : List Bool) → Sound g → Justified g marks → Closed g marks → Exact g marks
 exact_from g marks w r c s = (r s, closed_exits g marks w c s)
 
-pub unmarked-set : (marks : List Bool) (s : ℕ) → s < length marks → mark marks s ≡ false → unmarked (set marks s true) < unmarked marks
-unmarked-set marks s h e =
-    let a = sum_by-set (λ (x : Bool). cond (not x) 1 0) marks s true false h in
-    let b : ◌≡◌ {A = ℕ} (cond (not (mark marks s)) 1 0) 1 = ap {B = ℕ} (λ (x : Bool). cond (not x) 1 0) e in
-    omega (arith, a, b)
-
 -- A list of one value has no other.
 pub blank : {A : Type 0} (n : ℕ) (a : A) (k : ℕ) → get_or (replicate n a) k a ≡ a
-blank n a k = ⊎_elim (λ h. get_or-replicate n k a a h) (λ h. get_or_past (replicate n a) k a (rw (length-replicate n a) h)) (cases_lt k n)
+blank n a k = grind (arith, common_steps)

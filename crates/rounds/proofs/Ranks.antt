@@ -1,32 +1,28 @@
 -- Ranks fall along edges, and totals with silent steps.
-use Rattle.std.proofs.Common.{◌≡◌, ℕ, suc, ◌+◌, ◌*◌, ◌^◌, ◌<◌, ◌≤◌, Bool, true, false, cond, ◌&&◌, eqb, ◌⊎◌, List, [], ◌∷◌, sym, refl, subst, inl, inr, ⊎_elim, arith}
+use Rattle.std.proofs.Common.{◌≡◌, ℕ, suc, ◌+◌, ◌*◌, ◌^◌, ◌<◌, ◌≤◌, Bool, true, false, cond, ◌&&◌, ◌⊎◌, List, [], ◌∷◌, set, sym, refl, ◌∙◌, inl, inr, ⊎_elim, arith, rules, tests}
 use native.Mathlib.Nat.{pow-succ', pow-le-pow_right, one-le-pow}
-use Rattle.std.proofs.lemmas.Bool.{and_parts, and_from, both_ways, cases_Bool, or_cases, or_left, or_right, eqb-true, eq-eqb}
+use Rattle.std.proofs.lemmas.Bool.{cases_Bool}
+use Rattle.std.proofs.lemmas.Bool.Decides.{same_from_decides}
 use Rattle.rounds.specs.declared.passing.Passing.{Passing}
 use Rattle.rounds.specs.declared.passing.Passing.TheVariants.{Silent, Call, Reads}
 use Rattle.rounds.specs.Rounds.{Graph, Sound, NoRound, Of, Exits, Leads, Edge, plain, into, over, Reach, one, more}
-use Rattle.rounds.specs.Marks.{mark, opened, Due, Exact}
-use Rattle.rounds.specs.Rank.{some_of, passed, some_transition, exit_rule, exit_marks, can_exit, leads_by, linked, reach_rule, reach_marks, rank, total, RanksFall, StepsFall}
+use Rattle.rounds.specs.Marks.{mark, opened, Due, Closed}
+use Rattle.rounds.specs.Rank.{passed, exit_rule, exit_marks, can_exit, leads_by, linked, reach_rule, reach_marks, rank, total, OnlyExits, ExactlyExits, RanksFall, StepsFall}
 use Rattle.rounds.proofs.Walks.{Goes, moves, calls, leaves, step_goes, exits_stop, exits_move, exits_call, cycle_round}
-use Rattle.rounds.proofs.Marking.{due_exits, exact_from}
-use Rattle.rounds.proofs.Searching.{reach_join, reach_below, edge_below}
+use Rattle.rounds.proofs.Marking.{Justified, Exact, due_exits, justified_set, exact_from}
+use Rattle.rounds.proofs.Searching.{reach_join, reach_below, edge_below, grown_into, grown_over}
 use Rattle.rounds.proofs.Passes.{some_true, true_some, cond_le, tally_lt, passed_sound, passed_settled}
 
 module _ (g : Graph) (sound : Sound g) where
   -- The rule of the exits is what a pass of the code marks.
   rule_due : (marks : List Bool) (s : ℕ) → exit_rule g marks s ≡ true → Due g marks s
-  rule_due marks s e =
-      ⊎_elim (λ h. inl h)
-      (λ h. let o = some_true (opened g marks) (g.first s) (g.count s) h in inr (o.0, (o.1, o.2), o.3))
-      (or_cases (g.stop s) (some_transition g (opened g marks) s) e)
+  rule_due marks s e = search (rules, tests, some_true)
 
   due_rule : (marks : List Bool) (s : ℕ) → Due g marks s → exit_rule g marks s ≡ true
-  due_rule marks s (inl h) = or_left (g.stop s) (some_transition g (opened g marks) s) h
-  due_rule marks s (inr h) =
-      or_right (g.stop s) (some_transition g (opened g marks) s)
-      (true_some (opened g marks) (g.first s) (g.count s) h.0 h.1.0 h.1.1 h.2)
+  due_rule marks s (inl h) = search (rules, tests)
+  due_rule marks s (inr h) = search (rules, tests, true_some (opened g marks) (g.first s) (g.count s) h.0 h.1.0 h.1.1 h.2)
 
-  exits_exact : Exact g (exit_marks g)
+  pub exits_exact : Exact g (exit_marks g)
   unfolding exit_marks
   exits_exact =
       exact_from g (exit_marks g) sound
@@ -34,34 +30,39 @@ module _ (g : Graph) (sound : Sound g) where
       (λ marks r s e. due_exits g marks r s (rule_due marks s e)) g.states)
       (λ s b l. passed_settled (exit_rule g) g.states s b (due_rule (exit_marks g) s l))
 
+  -- Marks that say which states exit, in either way of saying so.
+  pub marks_exact : (marks : List Bool) → ExactlyExits g marks → Exact g marks
+  marks_exact marks h s = (λ m. (exits_exact s).0 (sym (h s) ∙ m), λ x. h s ∙ (exits_exact s).1 x)
+
+  -- Where what is marked exits, one more that is due does too.
+  pub right_set : (marks : List Bool) → OnlyExits g marks → (s : ℕ) → Due g marks s → OnlyExits g (set marks s true)
+  right_set marks r s d k m =
+      let h : Justified g marks = λ x i. (exits_exact x).0 (r x i) in
+      (exits_exact k).1 (justified_set g marks h s (due_exits g marks h s d) k m)
+
+  -- Where also all that is due is marked, the marks say which states exit.
+  pub closed_exact : (marks : List Bool) → OnlyExits g marks → Closed g marks → ExactlyExits g marks
+  closed_exact marks r c s =
+      let h : Justified g marks = λ x i. (exits_exact x).0 (r x i) in
+      same_from_decides (mark marks s) (can_exit g s) (exact_from g marks sound h c s) (exits_exact s)
+
   module _ (marks : List Bool) (exact : Exact g marks) where
     leads_from : (t q : ℕ) → leads_by g marks t (g.passing t) q ≡ true → Leads g t q
     leads_from t q e = go (g.passing t) refl e
       where
         go : (k : Passing) → g.passing t ≡ k → leads_by g marks t k q ≡ true → Leads g t q
-        go Silent k h = plain k (eqb-true (g.target t) q h)
-        go Call k h =
-            ⊎_elim (λ i. into k (eqb-true (g.target t) q i))
-            (λ i.
-            let p = and_parts (mark marks (g.target t)) (eqb (g.return_state t) q) i in
-            over k ((exact (g.target t)).0 p.0) (eqb-true (g.return_state t) q p.1))
-            (or_cases (eqb (g.target t) q) (mark marks (g.target t) && eqb (g.return_state t) q) h)
-        go Reads k h = absurd (both_ways false refl h)
+        go Silent k h = plain k (search (rules, tests))
+        go Call k h = search (rules, tests, into, over, exact)
+        go Reads k h = cc
 
     from_leads : (t q : ℕ) → Leads g t q → leads_by g marks t (g.passing t) q ≡ true
-    from_leads t q (plain k e) = subst (λ (x : Passing). leads_by g marks t x q ≡ true) (sym k) (eq-eqb (g.target t) q e)
-    from_leads t q (into k e) =
-        subst (λ (x : Passing). leads_by g marks t x q ≡ true) (sym k)
-        (or_left (eqb (g.target t) q) (mark marks (g.target t) && eqb (g.return_state t) q) (eq-eqb (g.target t) q e))
-    from_leads t q (over k x e) =
-        subst (λ (x : Passing). leads_by g marks t x q ≡ true) (sym k)
-        (or_right (eqb (g.target t) q) (mark marks (g.target t) && eqb (g.return_state t) q)
-        (and_from (mark marks (g.target t)) (eqb (g.return_state t) q) ((exact (g.target t)).1 x) (eq-eqb (g.return_state t) q e)))
+    from_leads t q (plain k e) = rw (k, e) (search (rules, tests))
+    from_leads t q (into k e) = rw (k, e) (search (rules, tests))
+    from_leads t q (over k x e) = rw (k, e) (search (rules, tests, exact))
 
     linked_edge : (s q : ℕ) → linked g marks s q ≡ true → Edge g s q
     linked_edge s q e =
-        let o = some_true (λ t. leads_by g marks t (g.passing t) q) (g.first s) (g.count s) e in
-        (o.0, (o.1, o.2), leads_from o.0 q o.3)
+        search (rules, tests, some_true (λ t. leads_by g marks t (g.passing t) q) (g.first s) (g.count s) e, leads_from)
 
     edge_linked : (s q : ℕ) → Edge g s q → linked g marks s q ≡ true
     edge_linked s q e =
@@ -69,27 +70,27 @@ module _ (g : Graph) (sound : Sound g) where
 
     -- The passes of the rule of reaching mark exactly what s reaches.
     reach_sound : (s k q : ℕ) → mark (passed (reach_rule g marks s) g.states k) q ≡ true → Reach g q s
-    reach_sound s k q e =
-        passed_sound (reach_rule g marks s) g.states (λ (x : ℕ). Reach g x s)
-        (λ met h p i.
-        ⊎_elim (λ j. one (linked_edge s p j))
-        (λ j.
-        let o = some_true (λ x. mark met x && linked g marks x p) 0 g.states j in
-        let w = and_parts (mark met o.0) (linked g marks o.0 p) o.3 in
-        reach_join g (h o.0 w.0) (one (linked_edge o.0 p w.1)))
-        (or_cases (linked g marks s p) (some_of (λ x. mark met x && linked g marks x p) 0 g.states) i))
-        k q e
+    reach_sound s k q e = passed_sound (reach_rule g marks s) g.states (λ (x : ℕ). Reach g x s) hands_on k q e
+      where
+        hands_on : (met : List Bool) → ((p : ℕ) → mark met p ≡ true → Reach g p s) → (p : ℕ) → reach_rule g marks s met p ≡ true → Reach g p s
+        hands_on met h p i =
+            ⊎_elim (λ j. one (linked_edge s p j))
+            (λ j.
+            let o = some_true (λ x. mark met x && linked g marks x p) 0 g.states j in
+            let f = linked_edge o.0 p in
+            search (rules, tests, one, reach_join g, f, h))
+            (search (rules, tests))
 
     step_in : (s : ℕ) (met : List Bool) → ((q : ℕ) → q < g.states → reach_rule g marks s met q ≡ true → mark met q ≡ true) →
         (x q : ℕ) → Edge g x q → q < g.states → (x ≡ s) ⊎ (mark met x ≡ true) → mark met q ≡ true
     step_in s met h x q e b (inl i) =
-        h q b (or_left (linked g marks s q) (some_of (λ x. mark met x && linked g marks x q) 0 g.states)
-        (edge_linked s q (subst (λ (y : ℕ). Edge g y q) i e)))
+        let f : linked g marks s q ≡ true = edge_linked s q (rw (← i) e) in
+        h q b (search (rules, tests))
     step_in s met h x q e b (inr i) =
         let l : x < g.states = sound.owns x e.0 e.1 in
-        h q b (or_right (linked g marks s q) (some_of (λ x. mark met x && linked g marks x q) 0 g.states)
-        (true_some (λ x. mark met x && linked g marks x q) 0 g.states x (omega arith) (omega arith)
-        (and_from (mark met x) (linked g marks x q) i (edge_linked x q e))))
+        let f = edge_linked x q e in
+        let o = true_some (λ y. mark met y && linked g marks y q) 0 g.states x (omega arith) (omega arith) (search (rules, tests)) in
+        h q b (search (rules, tests))
 
     reach_all : (s : ℕ) (met : List Bool) → ((q : ℕ) → q < g.states → reach_rule g marks s met q ≡ true → mark met q ≡ true) →
         {q x : ℕ} → Reach g q x → q < g.states → (x ≡ s) ⊎ (mark met x ≡ true) → mark met q ≡ true
@@ -176,12 +177,13 @@ module _ (g : Graph) where
         rw e (omega arith)
 
     pub goes_falls : {s : ℕ} {rs : List ℕ} {q : ℕ} {us : List ℕ} → Goes g s rs q us → total g q us < total g s rs
-    goes_falls {s} {rs} {q} {us} (moves t h k e f) =
-        subst (λ (x : ℕ). total g x us < total g s rs) e (subst (λ (l : List ℕ). total g (g.target t) l < total g s rs) f (fall_move t s rs h k))
-    goes_falls {s} {rs} {q} {us} (calls t h k e f) =
-        subst (λ (x : ℕ). total g x us < total g s rs) e (subst (λ (l : List ℕ). total g (g.target t) l < total g s rs) f (fall_call t s rs h k))
-    goes_falls {s} {rs} {q} {us} (leaves h e) = subst (λ (l : List ℕ). total g q us < total g s l) (sym e) (fall_leave s q us h)
+    goes_falls {s} {rs} {q} {us} (moves t h k e f) = rw (← e, ← f) (fall_move t s rs h k)
+    goes_falls {s} {rs} {q} {us} (calls t h k e f) = rw (← e, ← f) (fall_call t s rs h k)
+    goes_falls {s} {rs} {q} {us} (leaves h e) = rw e (fall_leave s q us h)
 
 pub steps_fall_lem : StepsFall
 steps_fall_lem g w n x p q e =
     goes_falls g w n (step_goes g x p.state p.returns q.state q.returns e)
+
+-- What a search meets at a call.
+pub ruleset calls_followed = (marks_exact, grown_into, grown_over)

@@ -1,7 +1,6 @@
 -- A state goes round exactly when it reaches itself by edges.
-use Rattle.std.proofs.Common.{◌≡◌, ℕ, ◌+◌, Bool, true, false, cond, ltb, leb, List, [], ◌∷◌, ◌++◌, sym, refl, ap, ◌∙◌, subst}
+use Rattle.std.proofs.Common.{◌≡◌, ℕ, Bool, true, false, cond, List, [], ◌∷◌, ◌++◌, refl, ap, subst, rules, tests}
 use mathlib.Core.Option.{Option, none, some}
-use Rattle.std.proofs.lemmas.Bool.{and_parts, and_from, leb-true, ltb-true, le-leb, lt-ltb}
 use Rattle.rounds.specs.declared.passing.Passing.{Passing}
 use Rattle.rounds.specs.declared.passing.Passing.TheVariants.{Silent, Call, Reads}
 use Rattle.rounds.specs.Rounds.{Graph, Of, has, Stand, standing, Step, along, back, follow, pop, step, and_then, walk, Round, Exits, Leads, Edge, plain, into, over, Reach, one, more, Cycle, RoundsAreCycles}
@@ -17,86 +16,47 @@ pub data Trail (g : Graph) (q : ℕ) (us : List ℕ) : ℕ → List ℕ → Type
   here : {s : ℕ} {rs : List ℕ} → s ≡ q → rs ≡ us → Trail g q us s rs
   next : {s p : ℕ} {rs vs : List ℕ} → Goes g s rs p vs → Trail g q us p vs → Trail g q us s rs
 
-abbrev state_of : Option Stand → ℕ
-state_of none = 0
-state_of (some p) = p.state
-
-abbrev returns_of : Option Stand → List ℕ
-returns_of none = []
-returns_of (some p) = p.returns
-
-abbrev IsSome : Option Stand → Type 0
-IsSome none = ⊥
-IsSome (some p) = Unit {0}
-
-never : {A : Type 0} {p : Stand} → none ≡ some p → A
-never e = absurd (subst IsSome (sym e) tt)
-
-abbrev head_of : List ℕ → ℕ
-head_of [] = 0
-head_of (r ∷ rs) = r
-
-abbrev IsNil : List ℕ → Type 0
-IsNil [] = Unit {0}
-IsNil (r ∷ rs) = ⊥
-
-cons_never : {r : ℕ} {rs : List ℕ} → r ∷ rs ≡ [] → ⊥
-cons_never e = subst IsNil (sym e) tt
-
-abbrev next_of : List ℕ → List ℕ
-next_of [] = []
-next_of (r ∷ rs) = rs
+same_stand : {p q : Stand} → some p ≡ some q → (p.state ≡ q.state) × (p.returns ≡ q.returns)
+same_stand {p} {q} e =
+    let h : p ≡ q = cc in
+    (ap (λ (x : Stand). x.state) h, ap (λ (x : Stand). x.returns) h)
 
 of_has : (g : Graph) (s t : ℕ) → has g s t ≡ true → Of g s t
-of_has g s t h =
-    let a = g.first s in
-    let e = g.first s + g.count s in
-    let p = and_parts (leb a t) (ltb t e) h in
-    (leb-true a t p.0, ltb-true t e p.1)
-
-has_of : (g : Graph) (s t : ℕ) → Of g s t → has g s t ≡ true
-has_of g s t h =
-    let a = g.first s in
-    let e = g.first s + g.count s in
-    and_from (leb a t) (ltb t e) (le-leb a t h.0) (lt-ltb t e h.1)
+of_has g s t h = search (rules, tests)
 
 module _ (g : Graph) where
   pub step_goes : (x : Step) (s : ℕ) (rs : List ℕ) (q : ℕ) (us : List ℕ) → step g x (standing s rs) ≡ some (standing q us) → Goes g s rs q us
   step_goes (along t) s rs q us e = go (has g s t) refl (g.passing t) refl e
     where
       go : (b : Bool) → has g s t ≡ b → (k : Passing) → g.passing t ≡ k → cond b (follow g k t rs) none ≡ some (standing q us) → Goes g s rs q us
-      go true h Silent k i = moves t (of_has g s t h) k (ap state_of i) (ap returns_of i)
-      go true h Call k i = calls t (of_has g s t h) k (ap state_of i) (ap returns_of i)
-      go true h Reads k i = never i
-      go false h k j i = never i
+      go true h Silent k i = let e = same_stand i in moves t (of_has g s t h) k e.0 e.1
+      go true h Call k i = let e = same_stand i in calls t (of_has g s t h) k e.0 e.1
+      go true h Reads k i = cc
+      go false h k j i = cc
   step_goes back s rs q us e = go (g.stop s) refl rs refl e
     where
       go : (b : Bool) → g.stop s ≡ b → (vs : List ℕ) → rs ≡ vs → cond b (pop vs) none ≡ some (standing q us) → Goes g s rs q us
-      go true h [] k i = never i
-      go true h (v ∷ vs) k i = leaves h (k ∙ (λ j. state_of (i j) ∷ returns_of (i j)))
-      go false h vs k i = never i
+      go true h [] k i = cc
+      go true h (v ∷ vs) k i = let e = same_stand i in leaves h (cc)
+      go false h vs k i = cc
 
   goes_step : {s : ℕ} {rs : List ℕ} {q : ℕ} {us : List ℕ} → Goes g s rs q us → (x : Step) × (step g x (standing s rs) ≡ some (standing q us))
-  goes_step {s} {rs} {q} {us} (moves t h k e f) =
-      let b : has g s t ≡ true = has_of g s t h in
-      (along t, rw (b, k) (λ j. some (standing (e j) (f j))))
-  goes_step {s} {rs} {q} {us} (calls t h k e f) =
-      let b : has g s t ≡ true = has_of g s t h in
-      (along t, rw (b, k) (λ j. some (standing (e j) (f j))))
+  goes_step {s} {rs} {q} {us} (moves t h k e f) = let b : has g s t ≡ true = search (rules, tests) in (along t, rw (b, k, e, f) refl)
+  goes_step {s} {rs} {q} {us} (calls t h k e f) = let b : has g s t ≡ true = search (rules, tests) in (along t, rw (b, k, e, f) refl)
   goes_step {s} {rs} {q} {us} (leaves h e) = (back, rw (h, e) refl)
 
   -- A walk of one step and more, taken apart.
-  first_step : (x : Step) (xs : List Step) (s : ℕ) (rs : List ℕ) (o : Option Stand) → walk g (x ∷ xs) (standing s rs) ≡ o → IsSome o → (p : Stand) × Goes g s rs p.state p.returns × (walk g xs p ≡ o)
-  first_step x xs s rs o e i = go (step g x (standing s rs)) refl e
+  first_step : (x : Step) (xs : List Step) (s : ℕ) (rs : List ℕ) (r : Stand) → walk g (x ∷ xs) (standing s rs) ≡ some r → (p : Stand) × Goes g s rs p.state p.returns × (walk g xs p ≡ some r)
+  first_step x xs s rs r e = go (step g x (standing s rs)) refl e
     where
-      go : (a : Option Stand) → step g x (standing s rs) ≡ a → and_then a (walk g xs) ≡ o → (p : Stand) × Goes g s rs p.state p.returns × (walk g xs p ≡ o)
-      go none h f = absurd (subst IsSome (sym f) i)
+      go : (a : Option Stand) → step g x (standing s rs) ≡ a → and_then a (walk g xs) ≡ some r → (p : Stand) × Goes g s rs p.state p.returns × (walk g xs p ≡ some r)
+      go none h f = cc
       go (some p) h f = (p, step_goes x s rs p.state p.returns h, f)
 
   walk_trail : (xs : List Step) (s : ℕ) (rs : List ℕ) (q : ℕ) (us : List ℕ) → walk g xs (standing s rs) ≡ some (standing q us) → Trail g q us s rs
-  walk_trail [] s rs q us e = here (ap state_of e) (ap returns_of e)
+  walk_trail [] s rs q us e = let h = same_stand e in here h.0 h.1
   walk_trail (x ∷ xs) s rs q us e =
-      let f = first_step x xs s rs (some (standing q us)) e tt in
+      let f = first_step x xs s rs (standing q us) e in
       next f.1 (walk_trail xs f.0.state f.0.returns q us f.2)
 
   trail_walk : {q : ℕ} {us : List ℕ} {s : ℕ} {rs : List ℕ} → Trail g q us s rs → (xs : List Step) × (walk g xs (standing s rs) ≡ some (standing q us))
@@ -179,7 +139,7 @@ module _ (g : Graph) where
 
   stays : {q s : ℕ} {rs : List ℕ} → rs ≡ [] → Lands g q s rs → Star g q s
   stays e (stay r) = r
-  stays e (fall f l) = absurd (cons_never e)
+  stays e (fall f l) = cc
 
   -- One step and any number more, from s with no return states, are one edge and any number more.
   goes_reach : {q s p : ℕ} {vs : List ℕ} → Goes g s [] p vs → Lands g q p vs → Reach g q s
@@ -189,16 +149,16 @@ module _ (g : Graph) where
       go : {ws : List ℕ} → ws ≡ g.return_state t ∷ [] → Lands g q (g.target t) ws → Reach g q s
       go i (stay r) = star_reach (t, h, into k refl) r
       go i (fall {r = r} {rs = rs} d m) =
-          let a : g.return_state t ≡ r = sym (ap (λ (l : List ℕ). head_of l) i) in
-          star_reach (t, h, over k d a) (stays (ap (λ (l : List ℕ). next_of l) i) m)
-  goes_reach {q} {s} {p} {vs} (leaves h e) l = absurd (cons_never (sym e))
+          let a : g.return_state t ≡ r = cc in
+          star_reach (t, h, over k d a) (stays (cc) m)
+  goes_reach {q} {s} {p} {vs} (leaves h e) l = cc
 
   trail_reach : {q : ℕ} {us : List ℕ} {s p : ℕ} {vs : List ℕ} → Goes g s [] p vs → Trail g q us p vs → Reach g q s
   trail_reach g t = goes_reach g (lands t)
 
   pub round_cycle : (s : ℕ) → Round g s → Cycle g s
   round_cycle s r =
-      let f = first_step g r.0 r.1 s [] (some (standing s r.2)) r.3 tt in
+      let f = first_step g r.0 r.1 s [] (standing s r.2) r.3 in
       trail_reach f.1 (walk_trail g r.1 f.0.state f.0.returns s r.2 f.2)
 
 -- One or more steps to q.

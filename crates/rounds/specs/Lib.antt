@@ -1,4 +1,5 @@
 pub mod Rounds
 pub mod Marks
-pub mod Search
 pub mod Rank
+pub mod Search
+pub mod Growth

@@ -2,7 +2,7 @@
 use Rattle.std.specs.Prelude.{◌≡◌, ℕ, ◌<◌, Bool, true, false, not, ◌&&◌, ◌⊎◌, List, count_by, slice_index_or}
 use Rattle.rounds.specs.declared.passing.Passing.{Passing}
 use Rattle.rounds.specs.declared.passing.Passing.TheVariants.{Silent, Call, Reads}
-use Rattle.rounds.specs.Rounds.{Graph, Of, Exits}
+use Rattle.rounds.specs.Rounds.{Graph, Of}
 
 -- The mark of s.
 abbrev pub mark : List Bool → ℕ → Bool
@@ -22,17 +22,9 @@ opened g marks t = opens_by g marks t (g.passing t)
 abbrev pub Due : Graph → List Bool → ℕ → Type 0
 Due g marks s = (g.stop s ≡ true) ⊎ ((t : ℕ) × Of g s t × (opened g marks t ≡ true))
 
--- What is marked exits.
-abbrev pub Justified : Graph → List Bool → Type 0
-Justified g marks = (s : ℕ) → mark marks s ≡ true → Exits g s
-
 -- Every state that is due is marked.
 abbrev pub Closed : Graph → List Bool → Type 0
 Closed g marks = (s : ℕ) → s < g.states → Due g marks s → mark marks s ≡ true
-
--- A state is marked exactly when it exits.
-abbrev pub Exact : Graph → List Bool → Type 0
-Exact g marks = (s : ℕ) → (mark marks s ≡ true → Exits g s) × (Exits g s → mark marks s ≡ true)
 
 -- How many are not marked.
 abbrev pub unmarked : List Bool → ℕ

@@ -1,5 +1,5 @@
 -- The rank of a state, by computation over the automaton, and the measure that falls with every silent step.
-use Rattle.std.specs.Prelude.{◌≡◌, ℕ, zero, suc, ◌+◌, ◌^◌, ◌<◌, Bool, false, cond, ◌&&◌, ◌||◌, List, [], ◌∷◌, ◌==◌}
+use Rattle.std.specs.Prelude.{◌≡◌, ℕ, zero, suc, ◌+◌, ◌^◌, ◌<◌, Bool, true, false, cond, ◌&&◌, ◌||◌, List, [], ◌∷◌, ◌==◌}
 use Rattle.std.proofs.Math.Option.{some}
 use Rattle.rounds.specs.declared.passing.Passing.{Passing}
 use Rattle.rounds.specs.declared.passing.Passing.TheVariants.{Silent, Call, Reads}
@@ -45,6 +45,14 @@ exit_marks g = passed (exit_rule g) g.states g.states
 -- The state s exits.
 abbrev pub can_exit : Graph → ℕ → Bool
 can_exit g s = mark (exit_marks g) s
+
+-- Only what exits is marked.
+abbrev pub OnlyExits : Graph → List Bool → Type 0
+OnlyExits g marks = (s : ℕ) → mark marks s ≡ true → can_exit g s ≡ true
+
+-- A state is marked exactly when it exits.
+abbrev pub ExactlyExits : Graph → List Bool → Type 0
+ExactlyExits g marks = (s : ℕ) → mark marks s ≡ can_exit g s
 
 -- An edge by the transition t, passed in the given way, leads to q, where the marks say which states exit.
 abbrev pub leads_by : Graph → List Bool → ℕ → Passing → ℕ → Bool

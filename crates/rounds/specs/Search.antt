@@ -1,41 +1,23 @@
 -- The search for what a state reaches: marks of the states met, and a list of them in the order of meeting.
-use Rattle.std.specs.Prelude.{◌≡◌, ℕ, ◌+◌, ◌<◌, ◌≤◌, not, ◌⊎◌, List, length, count_by, ◌==◌, slice_index}
-use Rattle.rounds.specs.Rounds.{Graph, Leads, Edge, Reach, Cycle}
+use Rattle.std.specs.Prelude.{◌≡◌, ℕ, ◌+◌, ◌<◌, ◌≤◌, Bool, not, List, count_by, ◌==◌, slice_index}
+use Rattle.rounds.specs.Rounds.{Graph, Cycle}
+use Rattle.rounds.specs.Rank.{some_of}
 
 -- The search from s has met k.
 abbrev pub Met : ℕ → List ℕ → ℕ → Type 0
-Met s seen k = slice_index seen k ≡ s + 1
+Met s marks k = slice_index marks k ≡ s + 1
+
+-- No mark is that of the search from s, or of a later one.
+abbrev pub Fresh : ℕ → List ℕ → Type 0
+Fresh s marks = (k : ℕ) → slice_index marks k ≤ s
 
 -- How many the search from s has not met.
 abbrev pub unmet : ℕ → List ℕ → ℕ
-unmet s seen = count_by (λ x. not (x == s + 1)) seen
+unmet s marks = count_by (λ x. not (x == s + 1)) marks
 
--- The first `tail` of the list are the states met, and s reaches each.
-pub record Held (g : Graph) (s : ℕ) (seen queue : List ℕ) (tail : ℕ) : Type 0 where
-  pub room : tail + unmet s seen ≤ length queue
-  pub wide : g.states ≤ length seen
-  pub fresh : (k : ℕ) → slice_index seen k ≤ s + 1
-  pub lie : (j : ℕ) → j < tail → slice_index queue j < g.states
-  pub found : (j : ℕ) → j < tail → Reach g (slice_index queue j) s
-  pub known : (k : ℕ) → Met s seen k → (j : ℕ) × (j < tail) × (slice_index queue j ≡ k)
-
--- What was met stays so, and the list only grows.
-pub record Grown (s : ℕ) (seen queue : List ℕ) (tail : ℕ) (seen' queue' : List ℕ) (tail' : ℕ) : Type 0 where
-  pub met : (k : ℕ) → Met s seen k → Met s seen' k
-  pub same : (j : ℕ) → j < tail → slice_index queue' j ≡ slice_index queue j
-  pub tails : tail ≤ tail'
-
--- All that the transition t leads to was met, but for what lies below s.
-abbrev pub Follows : Graph → ℕ → List ℕ → ℕ → Type 0
-Follows g s seen t = (q : ℕ) → Leads g t q → s ≤ q → Met s seen q
-
--- All that x has an edge to was met, but for what lies below s.
-abbrev pub Covers : Graph → ℕ → List ℕ → ℕ → Type 0
-Covers g s seen x = (q : ℕ) → Edge g x q → s ≤ q → Met s seen q
-
--- x is s, or s reaches it.
-abbrev pub From : Graph → ℕ → ℕ → Type 0
-From g s x = (x ≡ s) ⊎ Reach g x s
+-- k is one of the first `end` of the list.
+abbrev pub is_listed : List ℕ → ℕ → ℕ → Bool
+is_listed list end k = some_of (λ j. slice_index list j == k) 0 end
 
 -- No state below s reaches itself.
 abbrev pub NoneBelow : Graph → ℕ → Type 0

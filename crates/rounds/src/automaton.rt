@@ -40,6 +40,7 @@ pub trait Automaton {
 
     /// The state that a call comes back to.
     fn return_state(&self, t: usize) -> u16
-        requires { (t < (graph self.now).transitions) × ((graph self.now).passing t ≡ Call) }
+        requires within { t < (graph self.now).transitions }
+        requires call { (graph self.now).passing t ≡ Call }
         ensures { result ≡ (graph self.now).return_state t };
 }

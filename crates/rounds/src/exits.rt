@@ -1,71 +1,86 @@
-ghost use Rattle.std.specs.Prelude.{◌≡◌, ℕ, ◌<◌, ◌≤◌, true, false, length};
-ghost use Rattle.rounds.specs.Marks.{mark, opened, Due, Justified, Closed, Exact, unmarked};
+ghost use Rattle.std.specs.Prelude.{◌≡◌, ◌<◌, ◌≤◌, ◌↔◌, false, IsTrue};
+ghost use Rattle.rounds.specs.Marks.{opened, Due, Closed, unmarked};
+ghost use Rattle.rounds.specs.Rank.{OnlyExits, ExactlyExits};
 ghost use Rattle.rounds.specs.Rounds.{Sound};
-ghost use Rattle.rounds.specs.declared.passing.Passing.TheVariants.{Call};
 
 use crate::automaton::Automaton;
 use crate::passing::Passing;
+use crate::round::MAX_STATES;
 
-// Does the transition lead to marked states alone?
-fn opens<T: Automaton>(automaton: &T, marks: &[bool], t: usize) -> bool
-    requires within { (t < (T.graph automaton.now).transitions) × ((T.graph automaton.now).target t < length marks.now) }
-    requires call { (T.graph automaton.now).passing t ≡ Call → (T.graph automaton.now).return_state t < length marks.now }
-    ensures { result ≡ opened (T.graph automaton.now) marks.now t }
-{
-    match automaton.passing(t) {
-        Passing::Silent => marks[automaton.target(t) as usize],
-        Passing::Call => marks[automaton.target(t) as usize]
-            && marks[automaton.return_state(t) as usize],
-        Passing::Reads => false,
-    }
+// An automaton and marks of states that exit, while they are looked for.
+#[derive(Drop)]
+struct Marking<'a, T: Automaton> {
+    automaton: &'a T,
+    marks: [bool; MAX_STATES],
+    ghost sound: { Sound (T.graph automaton.now) },
+    ghost few: { (T.graph automaton.now).states ≤ 4096 },
+    ghost right: { OnlyExits (T.graph automaton.now) marks },
 }
 
-// Is `s` due to be marked: is it a stop, or does a transition lead to marked states alone?
-fn is_due<T: Automaton>(automaton: &T, marks: &[bool], s: usize) -> bool
-    requires sound { Sound (T.graph automaton.now) }
-    requires within { (s < (T.graph automaton.now).states) × ((T.graph automaton.now).states ≤ length marks.now) }
-    ensures yes { result ≡ true → Due (T.graph automaton.now) marks.now s }
-    ensures none { result ≡ false → Due (T.graph automaton.now) marks.now s → ⊥ }
-{
-    if automaton.stops(s) {
-        return true;
+impl<T: Automaton> Marking<'_, T> {
+    // Does the transition lead to marked states alone?
+    fn opens(&self, t: usize) -> bool
+        requires { t < (T.graph self.now.automaton.now).transitions }
+        ensures { result ≡ opened (T.graph self.now.automaton.now) self.now.marks t }
+    {
+        match self.automaton.passing(t) {
+            Passing::Silent => self.marks[usize::from(self.automaton.target(t))],
+            Passing::Call => {
+                self.marks[usize::from(self.automaton.target(t))]
+                    && self.marks[usize::from(self.automaton.return_state(t))]
+            }
+            Passing::Reads => false,
+        }
     }
-    let first = automaton.first(s);
-    let end = automaton.end(s);
-    for t in first..end {
-        if opens(automaton, marks, t) {
+
+    // Is `s` due to be marked: is it a stop, or does a transition lead to marked states alone?
+    fn is_due(&self, s: usize) -> bool
+        requires { s < (T.graph self.now.automaton.now).states }
+        ensures { IsTrue result ↔ Due (T.graph self.now.automaton.now) self.now.marks s }
+    {
+        if self.automaton.stops(s) {
             return true;
         }
-    }
-    false
-}
-
-// Marks the states that are due, from the last to the first. Was there one?
-fn mark_more<T: Automaton>(automaton: &T, marks: &mut [bool]) -> bool
-    requires sound { Sound (T.graph automaton.now) }
-    requires within { (T.graph automaton.now).states ≤ length marks.old }
-    requires before { Justified (T.graph automaton.now) marks.old }
-    ensures right { Justified (T.graph automaton.now) marks.new }
-    ensures less { result ≡ true → unmarked marks.new < unmarked marks.old }
-    ensures all { result ≡ false → Closed (T.graph automaton.now) marks.new }
-{
-    let mut changed = false;
-    let states = automaton.states();
-    for s in (0..states).rev() {
-        if !marks[s] && is_due(automaton, marks, s) {
-            marks[s] = true;
-            changed = true;
+        let first = self.automaton.first(s);
+        let end = self.automaton.end(s);
+        // As a chain, with `any`, it was tried; the proof did not close.
+        for t in first..end {
+            if self.opens(t) {
+                return true;
+            }
         }
+        false
     }
-    changed
+
+    // Marks the states that are due, from the last to the first. Was there one?
+    #[tactic(auto, using(crate::proofs::Ranks::right_set))]
+    fn mark_more(&mut self) -> bool
+        ensures same { self.new.automaton.now ≡ self.old.automaton.now }
+        ensures less { IsTrue result → unmarked self.new.marks < unmarked self.old.marks }
+        ensures all { result ≡ false → Closed (T.graph self.new.automaton.now) self.new.marks }
+    {
+        let mut changed = false;
+        for s in (0..self.automaton.states()).rev() {
+            if !self.marks[s] && self.is_due(s) {
+                self.marks[s] = true;
+                changed = true;
+            }
+        }
+        changed
+    }
 }
 
-// Marks exactly the states that exit, where none is marked yet.
-pub fn mark_exits<T: Automaton>(automaton: &T, marks: &mut [bool])
+// Marks exactly the states that exit.
+#[tactic(auto, using(crate::proofs::Ranks::closed_exact))]
+pub fn mark_exits<T: Automaton>(automaton: &T) -> [bool; MAX_STATES]
     requires sound { Sound (T.graph automaton.now) }
-    requires within { (T.graph automaton.now).states ≤ length marks.old }
-    requires blank { (s : ℕ) → mark marks.old s ≡ false }
-    ensures { Exact (T.graph automaton.now) marks.new }
+    requires few { (T.graph automaton.now).states ≤ 4096 }
+    ensures { ExactlyExits (T.graph automaton.now) result }
 {
-    while mark_more(automaton, marks) {}
+    let mut marking = Marking {
+        automaton,
+        marks: [false; MAX_STATES],
+    };
+    while marking.mark_more() {}
+    marking.marks
 }

@@ -3,9 +3,11 @@
 #![tactic(auto)]
 
 mod automaton;
+mod edges;
 mod exits;
 mod laws;
 mod passing;
+mod round;
 mod search;
 #[cfg(test)]
 mod tests;
@@ -13,4 +15,4 @@ mod tests;
 pub use automaton::Automaton;
 pub use laws::{ranks_fall, rounds_are_cycles, steps_fall};
 pub use passing::Passing;
-pub use search::{MAX_STATES, goes_round};
+pub use round::{MAX_STATES, goes_round};

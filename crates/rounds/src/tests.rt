@@ -1,7 +1,8 @@
-ghost use Rattle.std.specs.Prelude.{◌≡◌, ℕ, ◌+◌, ◌<◌, ◌≤◌, true, false, length, slice_index_or};
-ghost use Rattle.rounds.specs.declared.passing.Passing.TheVariants.{Silent};
+ghost use Rattle.std.specs.Prelude.{◌+◌, ◌<◌, ◌≤◌, ◌↔◌, IsTrue, EachIndex, length, slice_index_or};
+ghost use Rattle.rounds.specs.declared.tests.TheConstants.{NO_STATE, NO_TRANSITION};
 
 use crate::{Automaton, MAX_STATES, Passing, goes_round};
+use Passing::{Reads, Silent};
 use std::test::Fail;
 
 // A state: its transitions are the `count` ones from `first` on.
@@ -31,12 +32,12 @@ impl Automaton for Lists<'_, '_> {
     ghost graph = { λ a. record {
       states = length a.states.now;
       transitions = length a.transitions.now;
-      first = λ s. (slice_index_or a.states.now s (record { first = 0; count = 0; stop = false })).first;
-      count = λ s. (slice_index_or a.states.now s (record { first = 0; count = 0; stop = false })).count;
-      stop = λ s. (slice_index_or a.states.now s (record { first = 0; count = 0; stop = false })).stop;
-      passing = λ t. (slice_index_or a.transitions.now t (record { passing = Silent; target = 0; back = 0 })).passing;
-      target = λ t. (slice_index_or a.transitions.now t (record { passing = Silent; target = 0; back = 0 })).target;
-      return_state = λ t. (slice_index_or a.transitions.now t (record { passing = Silent; target = 0; back = 0 })).back;
+      first = λ s. (slice_index_or a.states.now s NO_STATE).first;
+      count = λ s. (slice_index_or a.states.now s NO_STATE).count;
+      stop = λ s. (slice_index_or a.states.now s NO_STATE).stop;
+      passing = λ t. (slice_index_or a.transitions.now t NO_TRANSITION).passing;
+      target = λ t. (slice_index_or a.transitions.now t NO_TRANSITION).target;
+      return_state = λ t. (slice_index_or a.transitions.now t NO_TRANSITION).back;
     } };
 
     fn states(&self) -> usize {
@@ -44,11 +45,12 @@ impl Automaton for Lists<'_, '_> {
     }
 
     fn first(&self, s: usize) -> usize {
-        self.states[s].first as usize
+        usize::from(self.states[s].first)
     }
 
     fn end(&self, s: usize) -> usize {
-        self.states[s].first as usize + self.states[s].count as usize
+        let State { first, count, .. } = self.states[s];
+        usize::from(first) + usize::from(count)
     }
 
     fn stops(&self, s: usize) -> bool {
@@ -70,26 +72,21 @@ impl Automaton for Lists<'_, '_> {
 
 // Do the transitions of each state lie among the first `n`?
 fn spans_fit(states: &[State], n: usize) -> bool
-    ensures { result ≡ true → (k : ℕ) → k < length states.now → (slice_index_or states.now k (record { first = 0; count = 0; stop = false })).first + (slice_index_or states.now k (record { first = 0; count = 0; stop = false })).count ≤ n }
+    ensures { IsTrue result
+        ↔ EachIndex states.now (λ k. let state = slice_index_or states.now k NO_STATE in state.first + state.count ≤ n) }
 {
-    for state in states {
-        if state.first as usize + state.count as usize > n {
-            return false;
-        }
-    }
-    true
+    states.iter().all(|state| usize::from(state.first) + usize::from(state.count) <= n)
 }
 
 // Are the states that each transition names among the first `n`?
 fn targets_fit(transitions: &[Transition], n: usize) -> bool
-    ensures { result ≡ true → (k : ℕ) → k < length transitions.now → ((slice_index_or transitions.now k (record { passing = Silent; target = 0; back = 0 })).target < n) × ((slice_index_or transitions.now k (record { passing = Silent; target = 0; back = 0 })).back < n) }
+    ensures targets { IsTrue result
+        → EachIndex transitions.now (λ k. (slice_index_or transitions.now k NO_TRANSITION).target < n) }
+    ensures backs { IsTrue result
+        → EachIndex transitions.now (λ k. (slice_index_or transitions.now k NO_TRANSITION).back < n) }
 {
-    for transition in transitions {
-        if transition.target as usize >= n || transition.back as usize >= n {
-            return false;
-        }
-    }
-    true
+    transitions.iter().all(|transition| usize::from(transition.target) < n
+        && usize::from(transition.back) < n)
 }
 
 // The lowest state that goes round; a failure where the lists do not fit each other.
@@ -106,6 +103,19 @@ fn lowest(states: &[State], transitions: &[Transition]) -> Result<Option<usize>,
     Err(Fail::new("the lists do not fit"))
 }
 
+// What stands past the end of the lists.
+const NO_STATE: State = State {
+    first: 0,
+    count: 0,
+    stop: false,
+};
+
+const NO_TRANSITION: Transition = Transition {
+    passing: Passing::Silent,
+    target: 0,
+    back: 0,
+};
+
 const STOP: State = State {
     first: 0,
     count: 0,
@@ -121,17 +131,10 @@ fn single(first: u16) -> State {
     }
 }
 
-fn silent(target: u16) -> Transition {
+// A transition that is no call.
+fn to(passing: Passing, target: u16) -> Transition {
     Transition {
-        passing: Passing::Silent,
-        target,
-        back: 0,
-    }
-}
-
-fn reads(target: u16) -> Transition {
-    Transition {
-        passing: Passing::Reads,
+        passing,
         target,
         back: 0,
     }
@@ -148,7 +151,7 @@ fn call(target: u16, back: u16) -> Transition {
 #[test]
 fn silent_moves_go_round(rt: HostRuntime) -> Result<(), Fail> {
     assert_eq!(rt;
-        lowest(&[single(0), single(1)], &[silent(1), silent(0)])?,
+        lowest(&[single(0), single(1)], &[to(Silent, 1), to(Silent, 0)])?,
         Some(0)
     );
     Ok(())
@@ -157,7 +160,7 @@ fn silent_moves_go_round(rt: HostRuntime) -> Result<(), Fail> {
 #[test]
 fn an_empty_rule_called_in_a_loop_goes_round(rt: HostRuntime) -> Result<(), Fail> {
     assert_eq!(rt;
-        lowest(&[single(0), single(1), STOP], &[reads(1), call(2, 1)])?,
+        lowest(&[single(0), single(1), STOP], &[to(Reads, 1), call(2, 1)])?,
         Some(1)
     );
     Ok(())
@@ -184,7 +187,10 @@ fn an_empty_rule_called_twice_in_a_row_does_not(rt: HostRuntime) -> Result<(), F
 #[test]
 fn a_chain_does_not(rt: HostRuntime) -> Result<(), Fail> {
     assert_eq!(rt;
-        lowest(&[single(0), single(1), STOP], &[silent(1), silent(2)])?,
+        lowest(
+            &[single(0), single(1), STOP],
+            &[to(Silent, 1), to(Silent, 2)]
+        )?,
         None
     );
     Ok(())
@@ -202,7 +208,10 @@ fn the_lowest_of_two_rounds_is_told(rt: HostRuntime) -> Result<(), Fail> {
         single(3),
     ];
     assert_eq!(rt;
-        lowest(&states, &[reads(1), reads(0), silent(1), silent(2)])?,
+        lowest(
+            &states,
+            &[to(Reads, 1), to(Reads, 0), to(Silent, 1), to(Silent, 2)]
+        )?,
         Some(1)
     );
     Ok(())

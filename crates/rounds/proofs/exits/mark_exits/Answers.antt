@@ -1,7 +1,7 @@
-use Rattle.std.proofs.Common.{refl}
-use Rattle.rounds.proofs.Marking.{exact_from}
+use Rattle.std.proofs.Common.{false}
+use Rattle.std.proofs.lemmas.Bool.{both_ways}
+use Rattle.rounds.proofs.Marking.{blank}
 use Rattle.rounds.proofs.exits.mark_exits.Goals as goal
 
-pub returns : goal.returns
-returns g c =
-    exact_from (g.T.Automaton.graph c.args.automaton.now) c.mark_more.new.marks c.requires.sound c.mark_more.ensures.right (c.loop-test.ensures.all refl)
+pub invariant_of-marking-clause-right : goal.invariant_of-marking-clause-right
+invariant_of-marking-clause-right g c = λ s e. absurd (both_ways _ (blank 4096 false s) e)

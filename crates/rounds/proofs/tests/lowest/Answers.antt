@@ -1,41 +1,27 @@
-use Rattle.std.proofs.Common.{◌≡◌, ℕ, ◌+◌, ◌<◌, ◌≤◌, true, false, List, length, get_or, refl, ap, ⊎_elim, arith}
+use Rattle.std.proofs.Common.{◌≡◌, ℕ, ◌<◌, true, List, length, get_or, refl, arith}
 use Rattle.std.proofs.lemmas.List.{get_or_past}
-use Rattle.std.proofs.lemmas.Bool.{both_ways, cases_lt}
+use Rattle.std.proofs.lemmas.Grind.{common_steps}
 use Rattle.rounds.specs.declared.tests.State.{State}
+use Rattle.rounds.specs.declared.tests.TheConstants.{NO_STATE}
 use Rattle.rounds.proofs.tests.lowest.Goals as goal
 
-abbrev at : List State → ℕ → State
-at states s = get_or states s (record { first = 0; count = 0; stop = false })
+stop_below : (states : List State) (s : ℕ) → (get_or states s NO_STATE).stop ≡ true → s < length states
+stop_below states s h = let past = get_or_past states s NO_STATE in grind (arith, common_steps)
 
--- Past the states there is none that is a stop or has a transition.
-at-past : (states : List State) (s : ℕ) → length states ≤ s → at states s ≡ record { first = 0; count = 0; stop = false }
-at-past states s h = get_or_past states s (record { first = 0; count = 0; stop = false }) h
-
-stop_below : (states : List State) (s : ℕ) → (at states s).stop ≡ true → s < length states
-stop_below states s h =
-    ⊎_elim (λ b. b)
-    (λ (b : length states ≤ s). absurd (both_ways (at states s).stop (ap (λ (x : State). x.stop) (at-past states s b)) h))
-    (cases_lt s (length states))
-
-of_below : (states : List State) (s t : ℕ) → (at states s).first ≤ t → t < (at states s).first + (at states s).count → s < length states
-of_below states s t h i =
-    ⊎_elim (λ b. b)
-    (λ (b : length states ≤ s).
-    let e : (at states s).count ≡ 0 = ap (λ (x : State). x.count) (at-past states s b) in
-    absurd (omega arith))
-    (cases_lt s (length states))
+of_below : (states : List State) (s : ℕ) → 0 < (get_or states s NO_STATE).count → s < length states
+of_below states s h = let past = get_or_past states s NO_STATE in grind (arith, common_steps)
 
 pub goes_round-requires : goal.goes_round-requires
 goes_round-requires c =
     let states = c.args.states.now in
-    let fit = c.if-targets_fit.ensures refl in
+    let fit = c.if-targets_fit.ensures in
     record {
       sound = record {
         stops = stop_below states;
-        owns = λ s t h. of_below states s t h.0 h.1;
-        spans = c.if-spans_fit.ensures refl;
-        targets = λ t h. (fit t h).0;
-        return_states = λ t h _. (fit t h).1;
+        owns = λ s t h. of_below states s (omega (arith, h));
+        spans = c.if-spans_fit.ensures.0 refl;
+        targets = fit.targets refl;
+        return_states = λ t h _. fit.backs refl t h;
       };
       few = omega arith;
     }

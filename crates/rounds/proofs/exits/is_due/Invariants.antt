@@ -1,7 +1,0 @@
-use Rattle.std.proofs.Common.{◌≡◌, ℕ, ◌<◌, ◌≤◌, false}
-use Rattle.rounds.specs.Marks.{opened}
-use Rattle.rounds.proofs.exits.is_due.Given as goal
-
--- no transition passed so far opens
-abbrev pub invariant-loop-t : goal.invariant-loop-t
-invariant-loop-t g l = (k : ℕ) → l.first ≤ k → k < l.t → opened (g.T.Automaton.graph l.automaton) l.marks k ≡ false

@@ -1,16 +1,16 @@
 -- Bytes that are UTF-8 to the standard library are well-formed here. Assumes nothing.
-use Rattle.std.proofs.Common.{◌≡◌, ℕ, ◌+◌, ◌-◌, ◌/◌, ◌%◌, ◌<◌, ◌≤◌, true, ltb, ◌⊎◌, List, [], ◌∷◌, ◌++◌, length, get_or, drop, IsUtf8, sym, refl, ap, ◌∙◌, inl, inr, ⊎_elim, arith}
+use Rattle.std.proofs.Common.{◌≡◌, ℕ, ◌+◌, ◌-◌, ◌/◌, ◌%◌, ◌<◌, ◌≤◌, true, ◌⊎◌, List, [], ◌∷◌, ◌++◌, length, get_or, drop, IsUtf8, sym, refl, ap, ◌∙◌, inl, inr, ⊎_elim, arith}
 use lib.Utf8.{encode, encodes, scalar, scalars, scalar_cases}
 use Rattle.std.proofs.lemmas.List.{get_or-drop, length-drop, length-append}
 use Rattle.std.proofs.lemmas.Str.{encode_ascii, length-encode, len_utf8_bounds, drop_past_char}
-use Rattle.std.proofs.lemmas.Bool.{cond-true, cond-false, lt-ltb, le-ltb, cases_lt, and_parts}
+use Rattle.std.proofs.lemmas.Bool.{cases_lt, and_parts}
 use Rattle.std.specs.Char.{len_utf8}
-use Rattle.input.specs.Utf8.{size_at, stop_from, WellFormed, Refused}
+use Rattle.input.specs.Utf8.{size_at, WellFormed, Refused}
 use Rattle.input.specs.declared.fault.Notice.{Notice}
 use Rattle.input.specs.Rows.{Follows, of_one, of_two, of_three, of_four}
 use Rattle.input.proofs.Sequences.{sized_at}
 use Rattle.input.proofs.Agree.{encode_2, encode_3, encode_4}
-use Rattle.input.proofs.Stops.{stop_more, stop_end, stop_start}
+use Rattle.input.proofs.Stops.{stop_after, stop_more, stop_end, stop_start}
 
 -- the byte at p + i, from what is left at p
 byte : (bs ys : List ℕ) (p i q : ℕ) → p + i ≡ q → drop p bs ≡ ys → get_or bs q 0 ≡ get_or ys i 0
@@ -56,29 +56,21 @@ size_4 bs rest p v l h e =
     let d : get_or bs (p + 3) 0 ≡ 128 + v % 64 = byte bs xs p 3 (p + 3) (omega arith) e' in
     sized_at bs p 4 (of_four refl (omega arith) (omega arith) (second_4 v _ _ l h a b) (omega arith, omega arith) (omega arith, omega arith)) (omega arith)
 
-width_of : (v n : ℕ) → ((v < 128) × (n ≡ 1)) ⊎ (((128 ≤ v) × (v < 2048) × (n ≡ 2)) ⊎ (((2048 ≤ v) × (v < 65536) × (n ≡ 3)) ⊎ ((65536 ≤ v) × (n ≡ 4)))) → n ≡ len_utf8 v
-width_of v n (inl h) = h.1 ∙ sym (cond-true {A = ℕ} (ltb v 128) _ _ (lt-ltb v 128 h.0))
-width_of v n (inr (inl h)) = h.2 ∙ sym (cond-false {A = ℕ} (ltb v 128) _ _ (le-ltb v 128 h.0) ∙ cond-true {A = ℕ} (ltb v 2048) _ _ (lt-ltb v 2048 h.1))
-width_of v n (inr (inr (inl h))) =
-    h.2 ∙ sym (cond-false {A = ℕ} (ltb v 128) _ _ (le-ltb v 128 (omega arith)) ∙ cond-false {A = ℕ} (ltb v 2048) _ _ (le-ltb v 2048 h.0) ∙ cond-true {A = ℕ} (ltb v 65536) _ _ (lt-ltb v 65536 h.1))
-width_of v n (inr (inr (inr h))) =
-    h.1 ∙ sym (cond-false {A = ℕ} (ltb v 128) _ _ (le-ltb v 128 (omega arith)) ∙ cond-false {A = ℕ} (ltb v 2048) _ _ (le-ltb v 2048 (omega arith)) ∙ cond-false {A = ℕ} (ltb v 65536) _ _ (le-ltb v 65536 h.0))
-
 size_width : (bs rest : List ℕ) (p v : ℕ) → scalar v ≡ true → drop p bs ≡ encode v ++ rest → size_at bs p ≡ len_utf8 v
 size_width bs rest p v s e =
     let top : v < 1114112 = ⊎_elim (λ k. omega arith) (λ k. k.1) (scalar_cases v s) in
     ⊎_elim
-    (λ h. width_of v (size_at bs p) (inl (h, size_1 bs rest p v h e)))
+    (λ h. let n = size_1 bs rest p v h e in grind arith)
     (λ l. ⊎_elim
-    (λ h. width_of v (size_at bs p) (inr (inl (l, h, size_2 bs rest p v l h e))))
+    (λ h. let n = size_2 bs rest p v l h e in grind arith)
     (λ k. ⊎_elim
-    (λ h. width_of v (size_at bs p) (inr (inr (inl (k, h, size_3 bs rest p v s k h e)))))
-    (λ j. width_of v (size_at bs p) (inr (inr (inr (j, size_4 bs rest p v j top e)))))
+    (λ h. let n = size_3 bs rest p v s k h e in grind arith)
+    (λ j. let n = size_4 bs rest p v j top e in grind arith)
     (cases_lt v 65536))
     (cases_lt v 2048))
     (cases_lt v 128)
 
-runs : (bs cs : List ℕ) (p : ℕ) → p ≤ length bs → scalars cs ≡ true → encodes cs ≡ drop p bs → stop_from bs (length bs - p) 0 p ≡ length bs
+runs : (bs cs : List ℕ) (p : ℕ) → p ≤ length bs → scalars cs ≡ true → encodes cs ≡ drop p bs → stop_after bs p ≡ length bs
 runs bs [] p h s e =
     let z : 0 ≡ length (drop p bs) = ap length e in
     let l : length bs ≤ p = omega (arith, length-drop p bs) in
@@ -90,7 +82,7 @@ runs bs (v ∷ cs) p h s e =
     let len : length (encode v) + length (encodes cs) ≡ length bs - p = sym (length-append (encode v) (encodes cs)) ∙ ap length e ∙ length-drop p bs in
     let le = length-encode v in
     let d : drop (p + size_at bs p) bs ≡ encodes cs = ap (λ (x : ℕ). drop (p + x) bs) n ∙ drop_past_char bs (encodes cs) p v (sym e) in
-    stop_more bs p (omega arith) (omega arith) ∙ runs bs cs (p + size_at bs p) (omega arith) q.1 (sym d)
+    sym (stop_more bs p _ (omega arith) refl (omega arith)) ∙ runs bs cs (p + size_at bs p) (omega arith) q.1 (sym d)
 
 pub utf8_formed : (bs : List ℕ) → IsUtf8 bs → WellFormed bs
 utf8_formed bs u = sym (stop_start bs) ∙ runs bs u.0 0 (omega arith) u.1.0 u.1.1

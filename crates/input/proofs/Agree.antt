@@ -1,10 +1,10 @@
 -- Bytes that are a text here are one to the standard library, with the same symbols. Assumes nothing.
-use Rattle.std.proofs.Common.{◌≡◌, ℕ, zero, suc, ◌+◌, ◌-◌, ◌*◌, ◌/◌, ◌%◌, ◌<◌, ◌≤◌, Bool, true, false, cond, eqb, ltb, leb, List, [], ◌∷◌, ◌++◌, map, length, get_or, drop, IsUtf8, sym, refl, ap, ◌∙◌, subst, ⊎_elim, arith}
+use Rattle.std.proofs.Common.{◌≡◌, ℕ, zero, suc, ◌+◌, ◌-◌, ◌*◌, ◌/◌, ◌%◌, ◌<◌, ◌≤◌, Bool, true, false, cond, eqb, List, [], ◌∷◌, ◌++◌, map, length, get_or, drop, IsUtf8, sym, refl, ap, ◌∙◌, subst, ⊎_elim, arith, rules}
 use lib.Utf8.{encode, encodes, scalar, scalars, low_scalar}
 use Rattle.std.proofs.lemmas.List.{drop_more, drop_all}
 use Rattle.std.proofs.lemmas.Str.{encode_ascii, chars_from_encodes}
 use Rattle.std.specs.Str.{chars}
-use Rattle.std.proofs.lemmas.Bool.{cond-true, cond-false, lt-ltb, le-ltb, cases_lt, and_from, le-leb, eqb-false}
+use Rattle.std.proofs.lemmas.Bool.{cases_lt, and_from, eqb-false}
 use Rattle.input.specs.Utf8.{symbol_of, symbol_at, size_at, places_from, stop_from, places_of, stop_of, WellFormed, text_of}
 use Rattle.input.specs.Rows.{Tail, Follows, ShapeAt, no_seq, of_one, of_two, of_three, of_four, shape_at, size_inside, tail_inside}
 use Rattle.input.specs.Places.{Covered, covered_more, covered_size}
@@ -21,21 +21,18 @@ div4 a b c d v h tb tc td e = (omega arith, omega arith, omega arith, omega arit
 
 pub encode_2 : (v : ℕ) → 128 ≤ v → v < 2048 → encode v ≡ (192 + v / 64) ∷ (128 + v % 64) ∷ []
 unfolding encode
-encode_2 v h l = cond-false (ltb v 128) _ _ (le-ltb v 128 h) ∙ cond-true (ltb v 2048) _ _ (lt-ltb v 2048 l)
+encode_2 v h l = search rules
 
 pub encode_3 : (v : ℕ) → 2048 ≤ v → v < 65536 → encode v ≡ (224 + v / 4096) ∷ (128 + (v / 64) % 64) ∷ (128 + v % 64) ∷ []
 unfolding encode
-encode_3 v h l = cond-false (ltb v 128) _ _ (le-ltb v 128 (omega arith)) ∙ cond-false (ltb v 2048) _ _ (le-ltb v 2048 h) ∙ cond-true (ltb v 65536) _ _ (lt-ltb v 65536 l)
+encode_3 v h l = grind arith
 
 pub encode_4 : (v : ℕ) → 65536 ≤ v → encode v ≡ (240 + v / 262144) ∷ (128 + (v / 4096) % 64) ∷ (128 + (v / 64) % 64) ∷ (128 + v % 64) ∷ []
 unfolding encode
-encode_4 v h = cond-false (ltb v 128) _ _ (le-ltb v 128 (omega arith)) ∙ cond-false (ltb v 2048) _ _ (le-ltb v 2048 (omega arith)) ∙ cond-false (ltb v 65536) _ _ (le-ltb v 65536 h)
+encode_4 v h = search rules
 
 high_scalar : (v : ℕ) → 57344 ≤ v → v < 1114112 → scalar v ≡ true
-high_scalar v h l = cond-false (ltb v 55296) _ _ (le-ltb v 55296 (omega arith)) ∙ and_from (leb 57344 v) (ltb v 1114112) (le-leb 57344 v h) (lt-ltb v 1114112 l)
-
-cons : {x y : ℕ} {xs ys : List ℕ} → x ≡ y → xs ≡ ys → x ∷ xs ≡ y ∷ ys
-cons e f = cc
+high_scalar v h l = search rules
 
 -- a sequence is the encoding of its symbol, which is a scalar value
 abbrev Spelt : ℕ → List ℕ → Type 0
@@ -44,7 +41,7 @@ Spelt v xs = (scalar v ≡ true) × (encode v ≡ xs)
 two_spelt : (a b v : ℕ) → 194 ≤ a → a ≤ 223 → Tail b → v ≡ (a - 192) * 64 + (b - 128) → Spelt v (a ∷ b ∷ [])
 two_spelt a b v i j tb e =
     let r = div2 a b v (omega arith) tb e in
-    (low_scalar v (omega arith), encode_2 v (omega arith) (omega arith) ∙ cons r.0 (cons r.1 refl))
+    (low_scalar v (omega arith), let k = encode_2 v (omega arith) (omega arith) in cc)
 
 three_scalar : (a b c v : ℕ) → 224 ≤ a → a ≤ 239 → Follows a b → Tail c → v ≡ (a - 224) * 4096 + (b - 128) * 64 + (c - 128) → scalar v ≡ true
 three_scalar a b c v i j f tc e =
@@ -59,7 +56,7 @@ three_spelt a b c v i j f tc e =
     let tb = f.0 in
     let r = div3 a b c v i tb tc e in
     let low : 2048 ≤ v = ⊎_elim (λ l. let h : 160 ≤ b = f.1 (omega arith) in omega arith) (λ l. omega arith) (cases_lt a 225) in
-    (three_scalar a b c v i j f tc e, encode_3 v low (omega arith) ∙ cons r.0 (cons r.1 (cons r.2 refl)))
+    (three_scalar a b c v i j f tc e, let k = encode_3 v low (omega arith) in cc)
 
 four_spelt : (a b c d v : ℕ) → 240 ≤ a → a ≤ 244 → Follows a b → Tail c → Tail d → v ≡ (a - 240) * 262144 + (b - 128) * 4096 + (c - 128) * 64 + (d - 128) → Spelt v (a ∷ b ∷ c ∷ d ∷ [])
 four_spelt a b c d v i j f tc td e =
@@ -67,7 +64,7 @@ four_spelt a b c d v i j f tc td e =
     let r = div4 a b c d v i tb tc td e in
     let low : 65536 ≤ v = ⊎_elim (λ l. let h : 144 ≤ b = f.3 (omega arith) in omega arith) (λ l. omega arith) (cases_lt a 241) in
     let top : v < 1114112 = ⊎_elim (λ l. omega arith) (λ l. let h : b ≤ 143 = f.4 (omega arith) in omega arith) (cases_lt a 244) in
-    (high_scalar v (omega arith) top, encode_4 v low ∙ cons r.0 (cons r.1 (cons r.2 (cons r.3 refl))))
+    (high_scalar v (omega arith) top, let k = encode_4 v low in cc)
 
 -- what is left of the bytes, some bytes further
 drop_2 : (bs : List ℕ) (p : ℕ) → p + 1 < length bs → drop p bs ≡ get_or bs p 0 ∷ get_or bs (p + 1) 0 ∷ drop (p + 2) bs

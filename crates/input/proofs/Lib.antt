@@ -1,6 +1,6 @@
+pub mod Ones
 pub mod Reading
 pub mod Upward
-pub mod Ones
 pub mod Sequences
 pub mod Stops
 pub mod Standing

@@ -12,13 +12,11 @@ use Rattle.input.proofs.Standing.{before_member, before_end, begins_at, stand_lt
 -- ---- what a reading step answered
 
 some_of : (b : Bool) (x y v n : ℕ) → Some (v, n) ≡ cond {A = Option (ℕ × ℕ)} b (Some (x, y)) None → (b ≡ true) × (v ≡ x) × (n ≡ y)
-some_of true x y v n e =
-    let f : ◌≡◌ {A = ℕ × ℕ} (v, n) (x, y) = cc in
-    (refl, ap (λ (p : ℕ × ℕ). p.0) f, ap (λ (p : ℕ × ℕ). p.1) f)
-some_of false x y v n e = absurd (let z : ◌≡◌ {A = ℕ} 0 1 = cc in omega arith)
+some_of true x y v n e = let f : ◌≡◌ {A = ℕ × ℕ} (v, n) (x, y) = cc in (refl, ap (λ (p : ℕ × ℕ). p.0) f, ap (λ (p : ℕ × ℕ). p.1) f)
+some_of false x y v n e = cc
 
 none_of : (b : Bool) (x y : ℕ) → None ≡ cond {A = Option (ℕ × ℕ)} b (Some (x, y)) None → b ≡ false
-none_of true x y e = absurd (let z : ◌≡◌ {A = ℕ} 0 1 = cc in omega arith)
+none_of true x y e = cc
 none_of false x y e = refl
 
 module _ (bs : List ℕ) (at : ℕ) where
@@ -106,3 +104,6 @@ module _ (bs : List ℕ) (place : ℕ) where
 
   pub found : (at : ℕ) → WellFormed bs → place ≤ length bs → (Tail (get_or bs place 0) → ⊥) → Sought (of_bytes bs at) place true (of_bytes bs place)
   found at w h f = (before place (places_of bs), (before_count bs place, seek_stands w h f, refl))
+
+-- what looking, stepping and seeking answer
+pub ruleset methods = (look_small, look_some, look_none, step_inside, step_stands, step_some, step_none, not_inside, seek_stands)

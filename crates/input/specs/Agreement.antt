@@ -5,6 +5,6 @@ use Rattle.input.specs.Utf8.{text_of}
 use Rattle.input.specs.declared.fault.Fault.{Fault}
 
 -- bytes that are taken up are UTF-8 with the same characters, and bytes that are refused though not too many are not UTF-8
-abbrev pub Agrees : List ℕ → Result (Unit {0}) Fault → Type 0
+abbrev pub Agrees : {T : Type 0} → List ℕ → Result T Fault → Type 0
 Agrees bs (Ok _) = IsUtf8 bs × ((text_of bs).symbols ≡ chars bs)
 Agrees bs (Err f) = length bs ≤ 1048576 → IsUtf8 bs → ⊥

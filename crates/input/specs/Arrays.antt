@@ -1,5 +1,5 @@
 -- A text that is an array of numbers: the symbols are the numbers, and the places the indices.
-use Rattle.std.specs.Prelude.{◌≡◌, ℕ, zero, suc, ◌+◌, ◌<◌, ◌≤◌, ◌⊎◌, List, [], ◌∷◌, length, slice_index, refl}
+use Rattle.std.specs.Prelude.{◌≡◌, ℕ, zero, suc, ◌+◌, ◌<◌, ◌≤◌, ◌⊎◌, List, [], ◌∷◌, length, slice_index, slice_index_or, refl}
 use Rattle.std.proofs.Common.{ap, arith}
 use Rattle.input.specs.Faults.{notice}
 use Rattle.input.specs.Text.{Text, Good, TooLong}
@@ -33,14 +33,14 @@ of_numbers xs n = record { symbols = xs; places = upward 0 (length xs); end = le
 
 -- ---- such a text is good
 
-length-upward : (a n : ℕ) → length (upward a n) ≡ n
+pub length-upward : (a n : ℕ) → length (upward a n) ≡ n
 length-upward a zero = refl
 length-upward a (suc n) = ap suc (length-upward (suc a) n)
 
-get_or-upward : (a n k : ℕ) → k < n → slice_index (upward a n) k ≡ a + k
-get_or-upward a zero k h = absurd (omega arith)
-get_or-upward a (suc n) zero h = omega arith
-get_or-upward a (suc n) (suc k) h = omega (arith, get_or-upward (suc a) n k (omega arith))
+pub get_or-upward : (a n k d : ℕ) → k < n → slice_index_or (upward a n) k d ≡ a + k
+get_or-upward a zero k d h = absurd (omega arith)
+get_or-upward a (suc n) zero d h = omega arith
+get_or-upward a (suc n) (suc k) d h = omega (arith, get_or-upward (suc a) n k d (omega arith))
 
 pub good_array : (xs : List ℕ) (n : ℕ) → Readable xs → n ≤ length xs → Good (of_numbers xs n)
 good_array xs n readable inside = record {
@@ -48,6 +48,6 @@ good_array xs n readable inside = record {
   inside = inside;
   few = readable.0;
   fit = readable.1;
-  rising = λ j k below h. omega (arith, get_or-upward 0 (length xs) j (omega arith), get_or-upward 0 (length xs) k h);
-  below = λ k h. omega (arith, get_or-upward 0 (length xs) k h);
+  rising = λ j k below h. omega (arith, get_or-upward 0 (length xs) j 0 (omega arith), get_or-upward 0 (length xs) k 0 h);
+  below = λ k h. omega (arith, get_or-upward 0 (length xs) k 0 h);
 }

@@ -1,21 +1,21 @@
 -- Laws of the table of well-formed sequences: what the bytes of a sequence of each size are, and that such bytes are one. Assumes nothing.
-use Rattle.std.specs.Prelude.{◌≡◌, ℕ, ◌+◌, ◌-◌, ◌<◌, ◌≤◌, Bool, true, false, cond, ◌&&◌, ◌⊎◌, List, length, nat_le, slice_index, refl}
+use Rattle.std.specs.Prelude.{◌≡◌, ℕ, ◌+◌, ◌-◌, ◌<◌, ◌≤◌, Bool, true, false, cond, ◌&&◌, ◌⊎◌, List, length, slice_index, refl}
 use Rattle.std.proofs.Common.{sym, ◌∙◌, subst, inr, ⊎_elim, arith}
 use Rattle.std.proofs.lemmas.List.{get_or_past}
-use Rattle.std.proofs.lemmas.Bool.{cases_lt, cond-true, cond-false, cond_both, and_from, and_parts, and_left, and_right, le-leb, lt-leb, leb-true}
+use Rattle.std.proofs.lemmas.Bool.{cases_lt, cond-true, cond-false, cond_both, and_from, and_parts, and_left}
 use Rattle.input.specs.Utf8.{within, tail, size_of, symbol_of, size_at, symbol_at}
 
 pub within_says : (lo hi a : ℕ) → within lo hi a ≡ true → (lo ≤ a) × (a ≤ hi)
 unfolding within
-within_says lo hi a e = let p = and_parts (nat_le lo a) (nat_le a hi) e in (leb-true lo a p.0, leb-true a hi p.1)
+within_says lo hi a e = grind arith
 
 pub within_yes : (lo hi a : ℕ) → lo ≤ a → a ≤ hi → within lo hi a ≡ true
 unfolding within
-within_yes lo hi a l h = and_from _ _ (le-leb lo a l) (le-leb a hi h)
+within_yes lo hi a l h = grind arith
 
 within_out : (lo hi a : ℕ) → (a < lo) ⊎ (hi < a) → within lo hi a ≡ false
 unfolding within
-within_out lo hi a out = ⊎_elim (λ h. and_left _ _ (lt-leb lo a h)) (λ h. and_right _ _ (lt-leb a hi h)) out
+within_out lo hi a out = grind arith
 
 -- a byte that goes on with a sequence
 abbrev pub Tail : ℕ → Type 0

@@ -1,4 +1,4 @@
-ghost use Rattle.std.specs.Prelude.{◌≡◌, ◌≤◌, length, Ok, Err};
+ghost use Rattle.std.specs.Prelude.{◌≡◌, ◌≤◌, length, MatchResult, OnOk, OnErr, IfErr};
 ghost use Rattle.input.specs.Arrays.{Readable, Refused, of_numbers, good_array};
 ghost use Rattle.input.specs.Faults.{told};
 ghost use Rattle.input.specs.Text.{empty_text};
@@ -17,17 +17,15 @@ pub struct ArraySource<'a> {
 
 // Refuses more than 1,048,576 numbers, and then the first above 1,114,111.
 fn check(numbers: &[u32]) -> Result<(), Fault>
-    ensures { elim result [ Ok _ ↦ Readable numbers.now | Err f ↦ Refused numbers.now (told f) ] }
+    ensures { MatchResult result (λ _. Readable numbers.now) (λ f. Refused numbers.now (told f)) }
 {
     if numbers.len() > MAX_LENGTH {
         return Err(Fault::TextTooLong);
     }
-    for (i, x) in numbers.iter().enumerate() {
-        if *x > MAX_SYMBOL {
-            return Err(Fault::BadSymbol(i));
-        }
+    match numbers.iter().position(|x| *x > MAX_SYMBOL) {
+        Some(i) => Err(Fault::BadSymbol(i)),
+        None => Ok(()),
     }
-    Ok(())
 }
 
 impl<'a> ArraySource<'a> {
@@ -44,15 +42,30 @@ impl<'a> ArraySource<'a> {
     /// Takes up a text, from its start. Refuses more than 1,048,576 numbers, and then the first
     /// above 1,114,111; the source is then as it was.
     pub fn open(&mut self, numbers: &'a [u32]) -> Result<(), Fault>
-        ensures { elim result [
-          | Ok _ ↦ Readable numbers.now × (of_numbers self.new.numbers.now self.new.at ≡ of_numbers numbers.now 0)
-          | Err f ↦ Refused numbers.now (told f) × (self.new ≡ self.old)
-        ] }
+        ensures readable { OnOk result (Readable numbers.now) }
+        ensures text { OnOk result (of_numbers self.new.numbers.now self.new.at ≡ of_numbers numbers.now 0) }
+        ensures refused { IfErr result (λ f. Refused numbers.now (told f)) }
+        ensures unchanged { OnErr result (self.new ≡ self.old) }
     {
         check(numbers)?;
         self.numbers = numbers;
         self.at = 0;
         Ok(())
+    }
+}
+
+/// A text from its start, or why the numbers are none: more than 1,048,576, or else the first above 1,114,111.
+impl<'a> TryFrom<&'a [u32]> for ArraySource<'a> {
+    type Error = Fault;
+
+    ghost try_from_gives = { λ numbers r. MatchResult r
+        (λ s. Readable numbers.now × (of_numbers s.numbers.now s.at ≡ of_numbers numbers.now 0))
+        (λ f. Refused numbers.now (told f)) };
+
+    fn try_from(numbers: &'a [u32]) -> Result<ArraySource<'a>, Fault> {
+        let mut source = ArraySource::new();
+        source.open(numbers)?;
+        Ok(source)
     }
 }
 
@@ -62,10 +75,9 @@ impl<'a> Source for ArraySource<'a> {
     ghost good = { λ s. good_array s.numbers.now s.at s.readable s.inside };
 
     fn look(&self) -> i32 {
-        if self.at < self.numbers.len() {
-            self.numbers[self.at] as i32
-        } else {
-            -1
+        match self.numbers.get(self.at) {
+            Some(x) => *x as i32,
+            None => -1,
         }
     }
 
@@ -78,6 +90,7 @@ impl<'a> Source for ArraySource<'a> {
         }
     }
 
+    #[tactic(auto, using(crate::proofs::Upward::place_of_array))]
     fn place(&self) -> usize {
         self.at
     }

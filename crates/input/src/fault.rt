@@ -3,6 +3,7 @@ ghost use Rattle.input.specs.Faults.{notice, told};
 ghost use Rattle.input.specs.Words.{line_of, name_of, words_of};
 
 use crate::source::MAX_LENGTH;
+use std::error::Error;
 use std::fmt;
 
 /// The part of the work that a fault is about.
@@ -13,7 +14,8 @@ pub enum Part {
     Run,
 }
 
-/// Why a call was refused, by number. What a case holds is the place it names: the text's, where nothing else is said.
+/// Why a call was refused, by number. What a case holds is the place it names: the text's, where
+/// nothing else is said.
 #[derive(Clone, Copy, PartialEq, Eq, Debug)]
 pub enum Fault {
     /// 1: a table ends before its sections are complete; the place is its length.
@@ -133,8 +135,7 @@ impl fmt::Display for Part {
     ghost output = { λ p. Some (name_of p) };
 
     fn fmt<W: fmt::Write>(&self, f: &mut fmt::Formatter<W>) -> fmt::Result {
-        let name = self.name();
-        write!(f, "{name}")
+        f.write_str(self.name())
     }
 }
 
@@ -151,3 +152,5 @@ impl fmt::Display for Fault {
         write!(f, "refused {number} at {place} in {part}: {words}")
     }
 }
+
+impl Error for Fault {}

@@ -1,4 +1,4 @@
-ghost use Rattle.std.specs.Prelude.{◌≡◌, ℕ, Bool, true, false, cond, if◌then◌else◌, nat_eq, nat_lt};
+ghost use Rattle.std.specs.Prelude.{◌≡◌, ℕ, Bool, true, false, if◌then◌else◌, nat_eq, nat_lt};
 ghost use Rattle.input.specs.Judges.{seated};
 ghost use Rattle.input.specs.declared.judge.Question.{Question as Asked};
 
@@ -33,7 +33,8 @@ impl Judge for OpenJudge {
     }
 }
 
-/// Eight seats, each open or shut. It says yes exactly where the predicate is below 8 and the seat of that number is open.
+/// Eight seats, each open or shut. It says yes exactly where the predicate is below 8 and the seat of
+/// that number is open.
 #[derive(Clone, Copy)]
 pub struct SeatJudge {
     seats: [bool; 8],
@@ -59,14 +60,14 @@ impl SeatJudge {
     pub fn is_open(&self, seat: u16) -> bool
         ensures { result ≡ seated self.now.seats seat }
     {
-        let n = usize::from(seat);
-        if n < 8 { self.seats[n] } else { false }
+        self.seats.get(usize::from(seat)).is_some_and(|open| *open)
     }
 
     /// Opens a seat; answers no, and changes nothing, where there is no such seat.
     pub fn open_seat(&mut self, seat: u16) -> bool
         ensures answer { result ≡ nat_lt seat 8 }
-        ensures after { (n : ℕ) → seated self.new.seats n ≡ (if nat_eq n seat then nat_lt n 8 else seated self.old.seats n) }
+        ensures after { (n : ℕ) → seated self.new.seats n
+            ≡ (if nat_eq n seat then nat_lt n 8 else seated self.old.seats n) }
     {
         self.put(seat, true)
     }
@@ -74,15 +75,19 @@ impl SeatJudge {
     /// Shuts a seat; answers no, and changes nothing, where there is no such seat.
     pub fn shut_seat(&mut self, seat: u16) -> bool
         ensures answer { result ≡ nat_lt seat 8 }
-        ensures after { (n : ℕ) → seated self.new.seats n ≡ (if nat_eq n seat then false else seated self.old.seats n) }
+        ensures after { (n : ℕ) → seated self.new.seats n
+            ≡ (if nat_eq n seat then false else seated self.old.seats n) }
     {
         self.put(seat, false)
     }
 
+    // What opening and shutting share.
     fn put(&mut self, seat: u16, open: bool) -> bool
         ensures answer { result ≡ nat_lt seat 8 }
-        ensures after { (n : ℕ) → seated self.new.seats n ≡ (if nat_eq n seat then cond (nat_lt n 8) «open» false else seated self.old.seats n) }
+        ensures after { (n : ℕ) → seated self.new.seats n
+            ≡ (if nat_eq n seat then (if nat_lt n 8 then «open» else false) else seated self.old.seats n) }
     {
+        // By index: after `get_mut` nothing would be known of the other seats.
         let n = usize::from(seat);
         if n < 8 {
             self.seats[n] = open;

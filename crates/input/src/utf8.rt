@@ -1,4 +1,4 @@
-ghost use Rattle.std.specs.Prelude.{◌≡◌, Ok, Err};
+ghost use Rattle.std.specs.Prelude.{◌≡◌, MatchResult, OnOk, OnErr, IfErr};
 ghost use Rattle.input.specs.Agreement.{Agrees};
 ghost use Rattle.input.specs.Faults.{told};
 ghost use Rattle.input.specs.Places.{good_bytes};
@@ -10,7 +10,7 @@ use crate::source::{MAX_LENGTH, Source};
 
 mod sequence;
 
-use sequence::{byte_or_zero, is_tail, read_at, size_at};
+use sequence::{read_at, size_at, tail_at};
 
 /// A text in UTF-8. The places are the offsets of bytes.
 #[derive(Drop)]
@@ -21,19 +21,20 @@ pub struct Utf8Source<'a> {
     ghost stands: { Stands bytes.now at },
 }
 
-// Refuses more than 1,048,576 bytes, and then the first place where a well-formed sequence should begin and none does.
+// Refuses more than 1,048,576 bytes, and then the first place where a well-formed sequence should begin
+// and none does. By hand, since a step is as long as its sequence: no iterator steps so.
+#[tactic(auto, using(crate::proofs::Stops::stops))]
 fn check(bytes: &[u8]) -> Result<(), Fault>
-    ensures { elim result [ Ok _ ↦ Readable bytes.now | Err f ↦ Refused bytes.now (told f) ] }
+    ensures { MatchResult result (λ _. Readable bytes.now) (λ f. Refused bytes.now (told f)) }
 {
     if bytes.len() > MAX_LENGTH {
         return Err(Fault::TextTooLong);
     }
     let mut at = 0;
     while at < bytes.len() {
-        let size = size_at(bytes, at);
-        if size == 0 {
+        let Some(size) = size_at(bytes, at) else {
             return Err(Fault::BadSymbol(at));
-        }
+        };
         at += size;
     }
     Ok(())
@@ -41,6 +42,7 @@ fn check(bytes: &[u8]) -> Result<(), Fault>
 
 impl<'a> Utf8Source<'a> {
     /// A source of the empty text.
+    #[tactic(auto, unfolding(crate::specs::Utf8::places_of, crate::specs::Utf8::stop_of))]
     pub fn new() -> Utf8Source<'a>
         ensures { of_bytes result.bytes.now result.at ≡ empty_text }
     {
@@ -50,10 +52,10 @@ impl<'a> Utf8Source<'a> {
     /// Takes up a text, from its start. Refuses more than 1,048,576 bytes, and then the first place
     /// where a well-formed sequence should begin and none does; the source is then as it was.
     pub fn open(&mut self, bytes: &'a [u8]) -> Result<(), Fault>
-        ensures opens { elim result [
-          | Ok _ ↦ Readable bytes.now × (of_bytes self.new.bytes.now self.new.at ≡ text_of bytes.now)
-          | Err f ↦ Refused bytes.now (told f) × (self.new ≡ self.old)
-        ] }
+        ensures readable { OnOk result (Readable bytes.now) }
+        ensures text { OnOk result (of_bytes self.new.bytes.now self.new.at ≡ text_of bytes.now) }
+        ensures refused { IfErr result (λ f. Refused bytes.now (told f)) }
+        ensures unchanged { OnErr result (self.new ≡ self.old) }
         ensures agrees { Agrees bytes.now result }
     {
         check(bytes)?;
@@ -63,11 +65,29 @@ impl<'a> Utf8Source<'a> {
     }
 }
 
+/// A text from its start, or why the bytes are none: more than 1,048,576, or else the first place
+/// where a well-formed sequence should begin and none does.
+impl<'a> TryFrom<&'a [u8]> for Utf8Source<'a> {
+    type Error = Fault;
+
+    ghost try_from_gives = { λ bytes r. MatchResult r
+        (λ s. Readable bytes.now × (of_bytes s.bytes.now s.at ≡ text_of bytes.now))
+        (λ f. Refused bytes.now (told f))
+        × Agrees bytes.now r };
+
+    fn try_from(bytes: &'a [u8]) -> Result<Utf8Source<'a>, Fault> {
+        let mut source = Utf8Source::new();
+        source.open(bytes)?;
+        Ok(source)
+    }
+}
+
 impl<'a> Source for Utf8Source<'a> {
     ghost text = { λ s. of_bytes s.bytes.now s.at };
 
     ghost good = { λ s. good_bytes s.bytes.now s.at s.readable };
 
+    #[tactic(auto, using(crate::proofs::Methods::methods))]
     fn look(&self) -> i32 {
         match read_at(self.bytes, self.at) {
             Some((symbol, _)) => symbol as i32,
@@ -75,6 +95,7 @@ impl<'a> Source for Utf8Source<'a> {
         }
     }
 
+    #[tactic(auto, using(crate::proofs::Methods::methods))]
     fn step(&mut self) -> bool {
         match read_at(self.bytes, self.at) {
             Some((_, size)) => {
@@ -89,11 +110,12 @@ impl<'a> Source for Utf8Source<'a> {
         self.at
     }
 
+    #[tactic(auto, using(crate::proofs::Methods::methods))]
     fn seek(&mut self, place: usize) -> bool {
         if place > self.bytes.len() {
             return false;
         }
-        if is_tail(byte_or_zero(self.bytes, place)) {
+        if tail_at(self.bytes, place) {
             return false;
         }
         self.at = place;

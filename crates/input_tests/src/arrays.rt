@@ -53,3 +53,13 @@ fn open_again_starts_at_the_beginning(rt: HostRuntime) -> Result<(), Fail> {
     seeks(&rt, &mut source, &[(0, -1)], &[1, 2]);
     Ok(())
 }
+
+#[test]
+fn a_text_is_made_of_numbers(rt: HostRuntime) -> Result<(), Fail> {
+    let mut source = ArraySource::try_from(&TEXT[..])?;
+    reads(&rt, &mut source, &SYMBOLS);
+    for (numbers, index) in BAD {
+        refused(&rt, ArraySource::try_from(numbers).map(|_| ()), 7, index)?;
+    }
+    Ok(())
+}

@@ -62,3 +62,11 @@ fn the_empty_text_is_taken(rt: HostRuntime) -> Result<(), Fail> {
     seeks(&rt, &mut source, &[(0, -1)], &[1, 2]);
     Ok(())
 }
+
+#[test]
+fn a_text_is_made_of_bytes(rt: HostRuntime) -> Result<(), Fail> {
+    let mut source = Utf8Source::try_from(&TEXT[..])?;
+    reads(&rt, &mut source, &SYMBOLS);
+    seeks(&rt, &mut source, &SYMBOLS, &ELSEWHERE);
+    refused(&rt, Utf8Source::try_from(&TEXT[0..5]).map(|_| ()), 7, 3)
+}

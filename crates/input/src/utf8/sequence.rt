@@ -1,86 +1,64 @@
-ghost use Rattle.std.specs.Prelude.{◌≡◌, ℕ, ◌+◌, ◌%◌, ◌<◌, ◌≤◌, true, length, slice_index};
+ghost use Rattle.std.specs.Prelude.{◌≡◌, ◌+◌, ◌%◌, ◌<◌, ◌≤◌, ◌↔◌, length, slice_index, IsTrue, MatchOption};
 ghost use Rattle.input.specs.Rows.{Follows, Tail};
-ghost use Rattle.input.specs.Utf8.{Readable, Stands, read_at, size_at, size_of};
+ghost use Rattle.input.specs.Utf8.{Readable, Stands, read_at, size_at};
 
 // Does the byte go on with a sequence?
-pub fn is_tail(b: u8) -> bool
-    ensures yes { result ≡ true → Tail b }
-    ensures all { Tail b → result ≡ true }
+fn is_tail(b: u8) -> bool
+    ensures { IsTrue result ↔ Tail b }
 {
-    (0x80 <= b) & (b <= 0xbf)
+    (0x80..=0xbf).contains(&b)
 }
 
 // May b stand second, after the first byte a of a sequence of three or four?
 fn may_follow(a: u8, b: u8) -> bool
-    ensures yes { result ≡ true → Follows a b }
-    ensures all { Follows a b → result ≡ true }
+    ensures { IsTrue result ↔ Follows a b }
 {
     match a {
-        0xe0 => (0xa0 <= b) & (b <= 0xbf),
-        0xed => (0x80 <= b) & (b <= 0x9f),
-        0xf0 => (0x90 <= b) & (b <= 0xbf),
-        0xf4 => (0x80 <= b) & (b <= 0x8f),
-        _ => (0x80 <= b) & (b <= 0xbf),
+        0xe0 => (0xa0..=0xbf).contains(&b),
+        0xed => (0x80..=0x9f).contains(&b),
+        0xf0 => (0x90..=0xbf).contains(&b),
+        0xf4 => (0x80..=0x8f).contains(&b),
+        _ => is_tail(b),
     }
 }
 
-fn size_of_two(a: u8, b: u8) -> usize
-    requires { (192 ≤ a) × (a ≤ 223) }
-    ensures { (c d : ℕ) → result ≡ size_of a b c d }
+// Does a byte that goes on with a sequence stand at a place?
+pub fn tail_at(bytes: &[u8], at: usize) -> bool
+    ensures { IsTrue result ↔ Tail (slice_index bytes.now at) }
 {
-    if (a >= 0xc2) & is_tail(b) { 2 } else { 0 }
+    bytes.get(at).is_some_and(|b| is_tail(*b))
 }
 
-fn size_of_three(a: u8, b: u8, c: u8) -> usize
-    requires { (224 ≤ a) × (a ≤ 239) }
-    ensures { (d : ℕ) → result ≡ size_of a b c d }
-{
-    if may_follow(a, b) & is_tail(c) { 3 } else { 0 }
-}
-
-fn size_of_four(a: u8, b: u8, c: u8, d: u8) -> usize
-    requires { (240 ≤ a) × (a ≤ 247) }
-    ensures { result ≡ size_of a b c d }
-{
-    if (a <= 0xf4) & may_follow(a, b) & is_tail(c) & is_tail(d) {
-        4
-    } else {
-        0
-    }
-}
-
-// The byte at a place; past the end it counts as 0.
-pub fn byte_or_zero(bytes: &[u8], at: usize) -> u8
-    ensures { result ≡ slice_index bytes.now at }
-{
-    if at < bytes.len() { bytes[at] } else { 0 }
-}
-
-/// The size of the well-formed sequence that begins at a place, or 0 where none does.
-pub fn size_at(bytes: &[u8], at: usize) -> usize
-    requires { (length bytes.now ≤ 1048576) × (at < length bytes.now) }
-    ensures { result ≡ size_at bytes.now at }
+// Of a sequence of three or four that begins at a place: may its second byte stand there?
+fn second_at(bytes: &[u8], at: usize) -> bool
+    requires few { length bytes.now ≤ 1048576 }
+    requires inside { at < length bytes.now }
+    ensures { IsTrue result ↔ Follows (slice_index bytes.now at) (slice_index bytes.now (at + 1)) }
 {
     let first = bytes[at];
-    match first.leading_ones() {
-        0 => 1,
-        2 => size_of_two(first, byte_or_zero(bytes, at + 1)),
-        3 => size_of_three(
-            first,
-            byte_or_zero(bytes, at + 1),
-            byte_or_zero(bytes, at + 2),
-        ),
-        4 => size_of_four(
-            first,
-            byte_or_zero(bytes, at + 1),
-            byte_or_zero(bytes, at + 2),
-            byte_or_zero(bytes, at + 3),
-        ),
-        _ => 0,
+    bytes.get(at + 1).is_some_and(|b| may_follow(first, *b))
+}
+
+/// The size of the well-formed sequence that begins at a place, or nothing where none does.
+#[tactic(auto, using(crate::proofs::Sequences::sizes_by_bytes))]
+pub fn size_at(bytes: &[u8], at: usize) -> Option<usize>
+    requires few { length bytes.now ≤ 1048576 }
+    requires inside { at < length bytes.now }
+    ensures { MatchOption result (size_at bytes.now at ≡ 0) (λ n. (n ≡ size_at bytes.now at) × (0 < n)) }
+{
+    // By place: as patterns of the slice `bytes[at..]` the same rows left twenty goals open.
+    match bytes[at] {
+        0x00..=0x7f => Some(1),
+        0xc2..=0xdf if tail_at(bytes, at + 1) => Some(2),
+        0xe0..=0xef if second_at(bytes, at) && tail_at(bytes, at + 2) => Some(3),
+        0xf0..=0xf4 if second_at(bytes, at) && tail_at(bytes, at + 2) && tail_at(bytes, at + 3) =>
+            Some(4),
+        _ => None,
     }
 }
 
 /// The symbol that begins at a place of a text and its size in bytes, or nothing at the end.
+#[tactic(auto, using(crate::proofs::Leads::reads_by_ones))]
 pub fn read_at(bytes: &[u8], at: usize) -> Option<(u32, usize)>
     requires text { Readable bytes.now }
     requires place { Stands bytes.now at }
@@ -90,6 +68,8 @@ pub fn read_at(bytes: &[u8], at: usize) -> Option<(u32, usize)>
         return None;
     }
     let first = u32::from(bytes[at]);
+    // By the count of ones, which is one jump: by ranges of the first byte, as above, a symbol of Chinese took
+    // 3.2 ns and not 2.2, and one of mixed scripts 9.7 ns and not 8.4 (a Latin one 1.3 ns and not 1.6).
     match bytes[at].leading_ones() {
         0 => Some((first, 1)),
         2 => Some((first % 32 * 64 + low_six(bytes[at + 1]), 2)),

@@ -11,7 +11,7 @@ pub returns-in_err-check : goal.returns-in_err-check
 returns-in_err-check c =
     let p = err_from_is_err_and c.from_residual.result c.from_residual.ensures.1 in
     let no_text = c.in_err-check.ensures in
-    rw (p.1, p.2) (record { opens = (no_text, refl); agrees = refused_not _ _ no_text })
+    rw (p.1, p.2) (record { readable = tt; text = tt; refused = no_text; unchanged = refl; agrees = refused_not _ _ no_text })
 
 pub invariant_of-self : goal.invariant_of-self
 invariant_of-self c = let r = c.in_ok-check.ensures in record { readable = r; stands = stand_start c.args.bytes.now r.1 }
@@ -20,4 +20,4 @@ pub returns : goal.returns
 returns c =
     let bs = c.args.bytes.now in
     let readable = c.in_ok-check.ensures in
-    record { opens = (readable, ap (read_to (text_of bs)) (before_zero (places_of bs))); agrees = formed_utf8 bs readable.1 }
+    record { readable = readable; text = ap (read_to (text_of bs)) (before_zero (places_of bs)); refused = tt; unchanged = tt; agrees = formed_utf8 bs readable.1 }

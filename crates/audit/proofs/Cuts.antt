@@ -1,5 +1,5 @@
 -- The lines of a recording keep the law of a cut, and no other list of lines does. Assumes nothing.
-use Rattle.std.proofs.Common.{◌≡◌, ℕ, suc, ◌-◌, ◌<◌, Bool, true, false, cond, eqb, List, [], ◌∷◌, ◌++◌, length, get_or, sym, refl, ap, ◌∙◌, append_assoc, arith}
+use Rattle.std.proofs.Common.{◌≡◌, ℕ, suc, ◌-◌, Bool, true, false, cond, eqb, List, [], ◌∷◌, ◌++◌, length, get_or, sym, refl, ap, ◌∙◌, append_assoc, arith}
 use Rattle.std.specs.List.{flat_map, AllByRecursion}
 use Rattle.std.proofs.lemmas.Bool.{eqb-true, eqb-false, ne_eqb, cond_both, cond-false}
 use Rattle.audit.specs.Lines.{Cut, NoFeed, ended, lines_of, onto, with_feed}
@@ -51,15 +51,9 @@ lines_cons : (b : ℕ) (bs : List ℕ) → (b ≡ 10 → ⊥) → lines_of (b �
 lines_cons b bs other = cond-false (eqb b 10) ([] ∷ lines_of bs) (onto b (lines_of bs)) (ne_eqb b 10 other)
 
 -- a line that a line feed ends
-pub first_line : (l bs : List ℕ) → NoFeed l → lines_of (l ++ (10 ∷ bs)) ≡ l ∷ lines_of bs
+first_line : (l bs : List ℕ) → NoFeed l → lines_of (l ++ (10 ∷ bs)) ≡ l ∷ lines_of bs
 first_line [] bs h = refl
 first_line (b ∷ l) bs h = lines_cons b (l ++ (10 ∷ bs)) h.0 ∙ ap (onto b) (first_line l bs h.1)
-
--- a line that the recording's end ends
-pub last_line : (l : List ℕ) → 0 < length l → NoFeed l → lines_of l ≡ l ∷ []
-last_line [] some h = absurd (omega arith)
-last_line (b ∷ []) some h = lines_cons b [] h.0
-last_line (b ∷ (c ∷ l)) some h = lines_cons b (c ∷ l) h.0 ∙ ap (onto b) (last_line (c ∷ l) (omega arith) h.1)
 
 lines_joined : (ls : List (List ℕ)) → AllByRecursion NoFeed ls → lines_of (flat_map with_feed ls) ≡ ls
 lines_joined [] h = refl

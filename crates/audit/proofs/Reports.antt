@@ -1,5 +1,5 @@
 -- How the report of a line counts in the totals, and that the totals of a recording fit. Assumes nothing.
-use Rattle.std.proofs.Common.{◌≡◌, ℕ, suc, ◌+◌, ◌^◌, ◌<◌, ◌≤◌, eqb, List, [], ◌∷◌, length, sym, ap, ◌∙◌, arith, rules}
+use Rattle.std.proofs.Common.{◌≡◌, ℕ, suc, ◌+◌, ◌^◌, ◌<◌, ◌≤◌, eqb, List, [], ◌∷◌, length, Result, sym, ap, ◌∙◌, arith, rules}
 use Rattle.std.proofs.lemmas.List.{length-map}
 use Rattle.std.proofs.lemmas.Bool.{cond_both}
 use Rattle.input.specs.Places.{up_length, up_places}
@@ -7,11 +7,12 @@ use Rattle.input.specs.Utf8.{symbol_at, places_of, text_of}
 use Rattle.audit.specs.Lines.{lines_of, onto}
 use Rattle.audit.specs.Reports.{Audited, symbols_in, refused_in}
 use Rattle.audit.specs.Totals.{both, counted, total_in, total_of, Fit}
-use Rattle.audit.specs.declared.report.Report.{Report}
+use Rattle.audit.specs.declared.report.Read.{Read}
+use Rattle.input.specs.declared.fault.Fault.{Fault}
 use Rattle.audit.specs.declared.totals.Totals.{Totals}
 
 -- a line that is counted is no longer to come
-count_more : (t : Totals) (line : List ℕ) (ls : List (List ℕ)) (report : Report) → Audited line report
+count_more : (t : Totals) (line : List ℕ) (ls : List (List ℕ)) (report : Result Read Fault) → Audited line report
     → both (counted t report) (total_in ls) ≡ both t (total_in (line ∷ ls))
 count_more t line ls report audited = search rules
 
@@ -48,7 +49,7 @@ lines_within (b ∷ bs) =
     cond_both (eqb b 10) ([] ∷ lines_of bs) (onto b (lines_of bs)) (Within (suc (length bs))) (λ _. (omega arith, omega arith)) (λ _. onto-within b (length bs) (lines_of bs) h)
 
 -- so the totals with one more line fit
-pub count_fits : (bs : List ℕ) (t : Totals) (line : List ℕ) (coming ls : List (List ℕ)) (report : Report) → length bs < 2 ^ 64 → Audited line report
+pub count_fits : (bs : List ℕ) (t : Totals) (line : List ℕ) (coming ls : List (List ℕ)) (report : Result Read Fault) → length bs < 2 ^ 64 → Audited line report
     → coming ≡ line ∷ ls → both t (total_in coming) ≡ total_of bs → Fit (counted t report)
 count_fits bs t line coming ls report small audited first whole =
     let e = count_more t line ls report audited ∙ (ap (λ ms. both t (total_in ms)) (sym first) ∙ whole) in

@@ -1,34 +1,37 @@
 -- The first line of what is left of a recording. Assumes nothing.
-use Rattle.std.proofs.Common.{◌≡◌, ℕ, ◌+◌, ◌-◌, ◌<◌, ◌≤◌, List, ◌∷◌, ◌++◌, length, get_or, drop, sym, ap, ◌∙◌, arith}
-use Rattle.std.specs.List.{between}
-use Rattle.std.proofs.ByRecursion.{All-from_get_or}
-use Rattle.std.proofs.lemmas.List.Edits.{length-between, get_or-between}
-use Rattle.std.proofs.lemmas.List.{take-append-drop, drop-drop, drop_more, at_drop_all}
-use Rattle.std.proofs.lemmas.Slice.{between_to_end}
-use Rattle.audit.specs.Lines.{NoFeed, lines_of}
-use Rattle.audit.proofs.Cuts.{first_line, last_line}
+use Rattle.std.proofs.Common.{◌≡◌, ℕ, suc, ◌+◌, ◌<◌, true, false, cond, not, List, [], ◌∷◌, length, min, take, drop, sym, refl, ap, ◌∙◌, arith}
+use Rattle.std.specs.Bool.{◌==◌}
+use Rattle.std.specs.List.{prefix_len}
+use Rattle.std.proofs.lemmas.List.{drop-drop, drop_min, length-drop}
+use Rattle.std.proofs.lemmas.List.Folds.{length-prefix_len}
+use Rattle.audit.specs.Lines.{lines_of, onto}
 
--- from `start` on there is no line feed before `end`
-module _ (bs : List ℕ) (start end : ℕ) (ahead : start ≤ end) (within : end ≤ length bs) (before : (k : ℕ) → start ≤ k → k < end → get_or bs k 0 ≡ 10 → ⊥) where
-  feedless : NoFeed (between start end bs)
-  feedless =
-      All-from_get_or (λ b. b ≡ 10 → ⊥) (between start end bs) 0
-      (λ i h e.
-      let in' : start + i < end = omega (arith, length-between bs start end within) in
-      before (start + i) (omega arith) in' (sym (get_or-between bs start end i 0 in') ∙ e))
+-- how many bytes at the front are before a line feed
+abbrev pub feedless : List ℕ → ℕ
+feedless = prefix_len (λ b. not (b == 10))
 
-  -- a line feed ends the line, and `next` is after it
-  pub next_fed : (next : ℕ) → end < length bs → get_or bs end 0 ≡ 10 → next ≡ end + 1 → lines_of (drop start bs) ≡ between start end bs ∷ lines_of (drop next bs)
-  next_fed next more feed after =
-      let there : start + (end - start) ≡ end = omega arith in
-      let rest : drop (end - start) (drop start bs) ≡ 10 ∷ drop next bs =
-      drop-drop (end - start) start bs ∙ (ap (λ n. drop n bs) there ∙ (drop_more bs end 0 more ∙ (cc))) in
-      ap lines_of (sym (take-append-drop (end - start) (drop start bs)) ∙ ap (λ l. between start end bs ++ l) rest)
-      ∙ first_line (between start end bs) (drop next bs) feedless
+-- a list cut after k bytes, and past the byte there
+abbrev cut_at : List ℕ → ℕ → List (List ℕ)
+cut_at bs k = take k bs ∷ lines_of (drop (suc k) bs)
 
-  -- the recording ends with the line, and `next` is its end
-  pub next_last : (next : ℕ) → start < length bs → length bs ≤ end → next ≡ end → lines_of (drop start bs) ≡ between start end bs ∷ lines_of (drop next bs)
-  next_last next more all after =
-      ap lines_of (sym (between_to_end bs start end all))
-      ∙ (last_line (between start end bs) (omega (arith, length-between bs start end within)) feedless
-      ∙ ap (λ ls. between start end bs ∷ ls) (sym (at_drop_all lines_of bs next (omega arith))))
+other_line : (b : ℕ) (bs : List ℕ) → (0 < length bs → lines_of bs ≡ cut_at bs (feedless bs)) → onto b (lines_of bs) ≡ cut_at (b ∷ bs) (1 + feedless bs)
+other_line b [] first = refl
+other_line b (c ∷ cs) first = ap (onto b) (first (omega arith)) ∙ ap (cut_at (b ∷ (c ∷ cs))) {x = suc (feedless (c ∷ cs))} (omega arith)
+
+first : (bs : List ℕ) → 0 < length bs → lines_of bs ≡ cut_at bs (feedless bs)
+first [] some = absurd (omega arith)
+first (b ∷ bs) some =
+    elim (b == 10) as (λ t. cond t ([] ∷ lines_of bs) (onto b (lines_of bs)) ≡ cut_at (b ∷ bs) (cond (not t) (1 + feedless bs) 0)) [ true ↦ refl | false ↦ other_line b bs (first bs) ]
+
+-- what is left after a line of k bytes and its line feed
+pub next_line : (bs rest : List ℕ) (at k next : ℕ) → at < length bs → rest ≡ drop at bs → k ≡ feedless rest → next ≡ min (at + length (take k rest) + 1) (length bs)
+    → lines_of (drop at bs) ≡ take k rest ∷ lines_of (drop next bs)
+next_line bs rest at k next more left is after =
+    let size : length (take k rest) ≡ k = ap (λ j. length (take j rest)) is ∙ (length-prefix_len (λ b. not (b == 10)) rest ∙ sym is) in
+    let past : drop (suc k) rest ≡ drop next bs =
+    ap (drop (suc k)) left
+    ∙ (drop-drop (suc k) at bs
+    ∙ (ap (λ n. drop n bs) {x = at + suc k} {y = at + length (take k rest) + 1} (omega arith)
+    ∙ (sym (drop_min (at + length (take k rest) + 1) bs) ∙ ap (λ n. drop n bs) (sym after)))) in
+    sym (ap lines_of left)
+    ∙ (first rest (omega (arith, length-drop at bs, ap length left)) ∙ (ap (cut_at rest) (sym is) ∙ ap (λ l. take k rest ∷ lines_of l) past))

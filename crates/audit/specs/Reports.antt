@@ -1,14 +1,14 @@
 -- What an audit reports of a line, and of all lines together.
-use Rattle.std.specs.Prelude.{◌≡◌, ℕ, ◌+◌, Bool, cond, ◌&&◌, List, [], ◌∷◌, length, ◌==◌, nat_le}
-use Rattle.audit.specs.declared.report.Report.{Report}
-use Rattle.audit.specs.declared.report.Report.TheVariants.{Read, Refused as Refusing}
+use Rattle.std.specs.Prelude.{◌≡◌, ℕ, ◌+◌, Bool, cond, ◌&&◌, List, [], ◌∷◌, length, Ok, Err, Result, ◌==◌, nat_le}
+use Rattle.audit.specs.declared.report.Read.{Read}
+use Rattle.input.specs.declared.fault.Fault.{Fault}
 use Rattle.input.specs.Faults.{told}
 use Rattle.input.specs.Utf8.{Readable, Refused, stop_of, text_of}
 
 -- a text is read with all its symbols, and what is no text is refused for the reason that the rules fix
-abbrev pub Audited : List ℕ → Report → Type 0
-Audited line (Read symbols bytes) = Readable line × (symbols ≡ length (text_of line).symbols) × (bytes ≡ length line)
-Audited line (Refusing fault) = Refused line (told fault)
+abbrev pub Audited : List ℕ → Result Read Fault → Type 0
+Audited line (Ok read) = Readable line × (read.symbols ≡ length (text_of line).symbols) × (read.bytes ≡ length line)
+Audited line (Err fault) = Refused line (told fault)
 
 -- is the line a text?
 abbrev pub is_text : List ℕ → Bool

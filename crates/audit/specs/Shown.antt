@@ -1,13 +1,16 @@
 -- What reports and totals read as.
-use Rattle.std.specs.Prelude.{ℕ, List, ◌++◌, codes, decimal}
-use Rattle.audit.specs.declared.report.Report.{Report}
-use Rattle.audit.specs.declared.report.Report.TheVariants.{Read, Refused as Refusing}
+use Rattle.std.specs.Prelude.{ℕ, List, ◌++◌, Ok, Err, Result, codes, decimal}
+use Rattle.audit.specs.declared.report.Read.{Read}
+use Rattle.input.specs.declared.fault.Fault.{Fault}
 use Rattle.audit.specs.declared.totals.Totals.{Totals}
 use Rattle.input.specs.Words.{line_of}
 
-abbrev pub report_line : Report → List ℕ
-report_line (Read symbols bytes) = decimal symbols ++ (codes " symbols, " ++ (decimal bytes ++ codes " bytes"))
-report_line (Refusing fault) = line_of fault
+abbrev pub read_line : Read → List ℕ
+read_line r = decimal r.symbols ++ (codes " symbols, " ++ (decimal r.bytes ++ codes " bytes"))
+
+abbrev pub report_line : Result Read Fault → List ℕ
+report_line (Ok read) = read_line read
+report_line (Err fault) = line_of fault
 
 abbrev pub totals_line : Totals → List ℕ
 totals_line t = decimal t.lines ++ (codes " lines, " ++ (decimal t.symbols ++ (codes " symbols, " ++ (decimal t.refused ++ codes " refused"))))

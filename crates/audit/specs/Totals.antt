@@ -1,15 +1,15 @@
 -- The totals of lines, and of a whole recording.
-use Rattle.std.specs.Prelude.{ℕ, ◌+◌, ◌^◌, ◌<◌, List, length}
+use Rattle.std.specs.Prelude.{ℕ, ◌+◌, ◌^◌, ◌<◌, List, length, Ok, Err, Result}
 use Rattle.audit.specs.Lines.{lines_of}
 use Rattle.audit.specs.Reports.{symbols_in, refused_in}
-use Rattle.audit.specs.declared.report.Report.{Report}
-use Rattle.audit.specs.declared.report.Report.TheVariants.{Read, Refused as Refusing}
+use Rattle.audit.specs.declared.report.Read.{Read}
+use Rattle.input.specs.declared.fault.Fault.{Fault}
 use Rattle.audit.specs.declared.totals.Totals.{Totals}
 
 -- the totals with one more line, by its report
-abbrev pub counted : Totals → Report → Totals
-counted t (Read symbols bytes) = record { lines = t.lines + 1; symbols = t.symbols + symbols; refused = t.refused }
-counted t (Refusing fault) = record { lines = t.lines + 1; symbols = t.symbols; refused = t.refused + 1 }
+abbrev pub counted : Totals → Result Read Fault → Totals
+counted t (Ok read) = record { lines = t.lines + 1; symbols = t.symbols + read.symbols; refused = t.refused }
+counted t (Err fault) = record { lines = t.lines + 1; symbols = t.symbols; refused = t.refused + 1 }
 
 -- the totals of lines
 abbrev pub total_in : List (List ℕ) → Totals

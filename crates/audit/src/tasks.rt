@@ -6,20 +6,16 @@ pub enum Task {
     Audit,
     Time,
     Help,
-    Unknown,
 }
 
-/// The task that a word names.
-pub fn task_of(word: &str) -> Task
+/// The task that a word names, or `None` where it names none.
+pub fn task_of(word: &str) -> Option<Task>
     ensures { Asks word.now result }
 {
-    if word == "audit" {
-        Task::Audit
-    } else if word == "time" {
-        Task::Time
-    } else if word == "help" {
-        Task::Help
-    } else {
-        Task::Unknown
+    match word {
+        "audit" => Some(Task::Audit),
+        "time" => Some(Task::Time),
+        "help" => Some(Task::Help),
+        _ => None,
     }
 }

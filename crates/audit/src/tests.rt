@@ -1,4 +1,4 @@
-use crate::{Audit, Lines, Report, Totals, audit_recording};
+use crate::{Audit, Lines, Read, Totals, audit_recording};
 use input::Fault;
 use std::process::Abort;
 
@@ -11,14 +11,9 @@ fn check_lines(rt: &impl Abort, recording: &[u8], expected: &[&[u8]]) {
     assert!(rt; lines.next_line().is_none());
 }
 
-// How many lines a recording has, read one by one.
+// How many lines a recording has.
 fn count(recording: &[u8]) -> usize {
-    let mut lines = Lines::of(recording);
-    let mut n = 0;
-    while let Some(_line) = lines.next_line() {
-        n += 1;
-    }
-    n
+    Lines::of(recording).count()
 }
 
 #[test]
@@ -43,15 +38,12 @@ fn lines_are_reported_in_order(rt: HostRuntime) {
     let mut audit = Audit::of(MIXED);
     assert_eq!(rt;
         audit.next_report(),
-        Some(Report::Read {
+        Some(Ok(Read {
             symbols: 2,
             bytes: 2,
-        })
+        }))
     );
-    assert_eq!(rt;
-        audit.next_report(),
-        Some(Report::Refused(Fault::BadSymbol(0)))
-    );
+    assert_eq!(rt; audit.next_report(), Some(Err(Fault::BadSymbol(0))));
     assert_eq!(rt;
         audit.totals(),
         Totals {
@@ -62,10 +54,10 @@ fn lines_are_reported_in_order(rt: HostRuntime) {
     );
     assert_eq!(rt;
         audit.next_report(),
-        Some(Report::Read {
+        Some(Ok(Read {
             symbols: 1,
             bytes: 2,
-        })
+        }))
     );
     assert_eq!(rt; audit.next_report(), None);
 }

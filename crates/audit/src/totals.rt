@@ -9,7 +9,7 @@ mod methods;
 pub use methods::audit_recording;
 
 /// How many lines there were, how many symbols were read in them, and how many of the lines were refused.
-#[derive(Clone, Copy, PartialEq, Eq, Debug)]
+#[derive(Clone, Copy, PartialEq, Eq, Debug, Default)]
 pub struct Totals {
     pub lines: usize,
     pub symbols: usize,
@@ -17,6 +17,7 @@ pub struct Totals {
 }
 
 /// An audit of a recording, line by line: the lines that are still to come, and the totals of those before them.
+// No `Iterator`: a `for` would hold the audit, and callers ask for the totals between two lines.
 #[derive(Drop)]
 pub struct Audit<'a> {
     ahead: Lines<'a>,

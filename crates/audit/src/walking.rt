@@ -4,6 +4,9 @@ ghost use Rattle.input.specs.Text.{read_to, rest};
 
 use input::Source;
 
+// The line feed.
+const FEED: i32 = b'\n' as i32;
+
 /// How many symbols a walk read, and how many of them were line feeds.
 #[derive(Clone, Copy, PartialEq, Eq, Debug)]
 pub struct Walked {
@@ -24,7 +27,7 @@ pub fn walk<S: Source>(source: &mut S) -> Walked
         if symbol < 0 {
             return Walked { symbols, feeds };
         }
-        if symbol == 10 {
+        if symbol == FEED {
             feeds += 1;
         }
         symbols += 1;

@@ -1,25 +1,12 @@
 -- How a word is read byte by byte, and a text word by word. Assumes nothing.
-use Rattle.std.proofs.Common.{◌≡◌, ℕ, ◌+◌, ◌-◌, ◌*◌, ◌<◌, min, true, false, cond, ◌&&◌, List, [], ◌∷◌, ◌++◌, length, get_or, take, drop, ℤ, Ok, Err, Result, sym, refl, ap, ◌∙◌, append_assoc, arith, w32, SFits, to_z, of_z}
+use Rattle.std.proofs.Common.{◌≡◌, ℕ, ◌+◌, ◌-◌, ◌*◌, ◌<◌, min, ◌&&◌, List, [], ◌∷◌, ◌++◌, length, fold, rules, ℤ, Ok, Err, Result, sym, refl, ap, ◌∙◌, append_assoc, arith, w32, SFits, to_z, of_z}
 use Rattle.std.specs.Char.{is_ascii_digit}
+use Rattle.std.specs.List.{list_all}
 use Rattle.std.specs.Str.{all_ascii_digits}
-use Rattle.std.proofs.lemmas.List.{at_drop_more, take_rest}
-use Rattle.std.proofs.lemmas.Bool.{eq-eqb, ne_eqb}
 use Rattle.std.proofs.lemmas.Int.{to_z-of_z}
-use Rattle.std.proofs.lemmas.List.Sums.{fold_more}
 use Rattle.decimals.specs.Words.{Found}
-use Rattle.decimals.specs.Numbers.{before, is_negative, number_of, numbers_in, size_of, unsigned}
+use Rattle.decimals.specs.Numbers.{before, is_digits, number_of, numbers_in}
 use Rattle.decimals.specs.declared.error.NumbersError.{NumbersError}
-
--- a word that begins with `-`, and one that does not
-pub cut_minus : (word : List ℕ) → get_or word 0 0 ≡ 45 → (true ≡ is_negative word) × (take (length word - 1) (drop 1 word) ≡ unsigned word)
-cut_minus word minus =
-    let e = eq-eqb (get_or word 0 0) 45 minus in
-    (sym e, take_rest word 1 ∙ ap (λ t. drop (cond t 1 0) word) (sym e))
-
-pub cut_none : (word : List ℕ) → (get_or word 0 0 ≡ 45 → ⊥) → (false ≡ is_negative word) × (word ≡ unsigned word)
-cut_none word other =
-    let e = ne_eqb (get_or word 0 0) 45 other in
-    (sym e, ap (λ t. drop (cond t 1 0) word) (sym e))
 
 -- numbers that were read, before what the rest says
 abbrev pub after : List ℤ → Result (List ℤ) NumbersError → Result (List ℤ) NumbersError
@@ -37,13 +24,18 @@ numbers_more zs more z w ws rest all fits pushed says first inv =
     ap (λ l. after l (numbers_in rest)) (pushed ∙ ap (λ y. zs ++ (y ∷ [])) (to_z-of_z w32 z fits))
     ∙ (after_more zs z (numbers_in rest) ∙ (ap (λ r. after zs (before r (numbers_in rest))) says ∙ (ap (λ l. after zs (numbers_in l)) (sym first) ∙ inv)))
 
--- past a digit
-module _ (ds : List ℕ) (i : ℕ) (more : i < length ds) where
-  pub digits_more : is_ascii_digit (get_or ds i 0) ≡ true → all_ascii_digits (drop (i + 1) ds) ≡ all_ascii_digits (drop i ds)
-  digits_more e = sym (at_drop_more all_ascii_digits ds i 0 more ∙ ap (λ t. t && all_ascii_digits (drop (i + 1) ds)) e)
+-- digits are told one by one
+one_by_one : (ds : List ℕ) → list_all is_ascii_digit ds ≡ all_ascii_digits ds
+one_by_one [] = refl
+one_by_one (d ∷ ds) = ap (λ t. is_ascii_digit d && t) (one_by_one ds)
 
-  pub digits_none : is_ascii_digit (get_or ds i 0) ≡ false → all_ascii_digits (drop i ds) ≡ false
-  digits_none e = at_drop_more all_ascii_digits ds i 0 more ∙ ap (λ t. t && all_ascii_digits (drop (i + 1) ds)) e
+pub all_digits : (ds : List ℕ) → 0 < length ds → list_all is_ascii_digit ds ≡ is_digits ds
+all_digits ds some = one_by_one ds ∙ search rules
 
-  pub size_more : (n d : ℕ) → d ≡ get_or ds i 0 - 48 → n ≡ min (size_of (take i ds)) 4294967295 → min (n * 10 + d) 4294967295 ≡ min (size_of (take (i + 1) ds)) 4294967295
-  size_more n d e is = omega (arith, fold_more (λ k b. k * 10 + (b - 48)) 0 ds i 0 more)
+-- a size with one more digit, that stops at the limit
+abbrev pub onward : ℕ → ℕ → ℕ
+onward n d = min (min (n * 10) 4294967295 + (d - 48)) 4294967295
+
+pub stops : (ds : List ℕ) (n m : ℕ) → m ≡ min n 4294967295 → fold onward m ds ≡ min (fold (λ k d. k * 10 + (d - 48)) n ds) 4294967295
+stops [] n m e = e
+stops (d ∷ ds) n m e = stops ds (n * 10 + (d - 48)) (onward m d) (omega arith)

@@ -1,5 +1,6 @@
 -- The words of a text, a list of bytes, each with the line that it stands in. Assumes nothing.
-use Rattle.std.specs.Prelude.{ℕ, ◌+◌, ◌-◌, Bool, true, false, cond, not, ◌&&◌, ◌||◌, List, [], ◌∷◌, length, drop, ◌==◌, nat_le}
+use Rattle.std.specs.Prelude.{ℕ, ◌+◌, Bool, true, false, cond, not, ◌&&◌, ◌||◌, List, [], ◌∷◌, ◌==◌, nat_le}
+use Rattle.decimals.specs.declared.words.Word.{Word}
 use Rattle.decimals.specs.declared.words.Words.{Words}
 
 -- white space: the bytes 9 to 13 and 32
@@ -54,10 +55,10 @@ words_from comment n bs = words_in n (cut_of comment n bs)
 abbrev pub words_of : List ℕ → List Found
 words_of bs = words_from false 1 bs
 
+-- a word as it was read
+abbrev pub told : Word → Found
+told w = found w.line w.bytes.now
+
 -- the words that are still to come
 abbrev pub left : Words → List Found
-left s = words_from false (s.feeds + 1) (drop s.at s.text.now)
-
--- how many bytes are still to come
-abbrev pub bytes_left : Words → ℕ
-bytes_left s = length s.text.now - s.at
+left s = words_from false s.line s.rest.now

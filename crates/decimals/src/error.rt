@@ -3,6 +3,7 @@ ghost use Rattle.decimals.specs.Shown.{line_of};
 ghost use Rattle.decimals.specs.declared.error.NumbersError.TheVariants.{NoMemory};
 
 use std::alloc::AllocFailed;
+use std::error::Error;
 use std::fmt;
 
 /// Why a text gives no numbers. A line is counted from 1, and is that of the first word that is wrong.
@@ -40,3 +41,5 @@ impl fmt::Display for NumbersError {
         }
     }
 }
+
+impl Error for NumbersError {}

@@ -1,4 +1,4 @@
-ghost use Rattle.std.specs.Prelude.{◌^◌, ◌<◌, ◌≤◌, length};
+ghost use Rattle.std.specs.Prelude.{◌+◌, ◌^◌, ◌<◌, length};
 
 mod methods;
 
@@ -9,13 +9,10 @@ pub struct Word<'a> {
     pub bytes: &'a [u8],
 }
 
-/// The words of a text that are still to come: from the byte `at` on, before which `feeds` lines end.
+/// The words of a text that are still to come: what is left of the text, and the line that it begins in.
 #[derive(Drop)]
 pub struct Words<'a> {
-    text: &'a [u8],
-    at: usize,
-    feeds: usize,
-    ghost inside: { at ≤ length text.now },
-    ghost small: { length text.now < 2 ^ 64 },
-    ghost few: { feeds ≤ at },
+    rest: &'a [u8],
+    line: usize,
+    ghost small: { line + length rest.now < 2 ^ 64 },
 }

@@ -2,6 +2,7 @@ ghost use Rattle.std.specs.Prelude.{◌≡◌, Bool, true, nat_eq};
 ghost use Rattle.std.proofs.Common.{rules};
 
 /// A value that a set can hold: sameness answers yes exactly when two elements are equal.
+// Not the library's `Eq`, which promises an equivalence: elements that it calls equal may still differ.
 pub trait Element: Sized {
     // What `same` answers, as a function of the two elements.
     ghost alike: { Self → Self → Bool };

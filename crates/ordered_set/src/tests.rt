@@ -18,7 +18,7 @@ impl Element for Edge {
     ghost complete = { Prim.search rules };
 
     fn same(&self, other: &Edge) -> bool {
-        self.from == other.from && self.to == other.to
+        *self == *other
     }
 }
 

@@ -1,12 +1,9 @@
 //! The score line's program: audits recordings, and measures how fast a text is walked.
 #![tactic(auto)]
 
-mod files;
-#[cfg(test)]
-mod tests;
-
-use anyhow::anyhow;
+use anyhow::bail;
 use audit::{Task, task_of};
+use reports::{audit_file, time_file};
 use std::env;
 
 const USAGE: &str =
@@ -15,16 +12,15 @@ scoreline time FILE    walks FILE as one text, and says how long a symbol takes
 scoreline help         prints this";
 
 fn run(rt: &HostRuntime) -> anyhow::Result<()> {
-    let mut words = env::args(rt)?;
-    let _ = words.next();
-    let Some(word) = words.next() else {
-        return Err(anyhow!("no command: see scoreline help"));
+    let words: Vec<String> = env::args(rt)?.skip(1).collect(rt.alloc())?;
+    let [word, others @ ..] = words.as_slice() else {
+        bail!("no command: see scoreline help");
     };
-    match (task_of(word.as_str()), words.next(), words.next()) {
-        (Task::Audit, Some(path), None) => files::audit_file(rt, path.as_str()),
-        (Task::Time, Some(path), None) => files::time_file(rt, path.as_str()),
-        (Task::Help, None, _) => Ok(println!(rt; "{USAGE}")?),
-        _ => Err(anyhow!("not a command, or not one FILE: see scoreline help")),
+    match (task_of(word.as_str()), others) {
+        (Some(Task::Audit), [path]) => audit_file(rt, path.as_str()),
+        (Some(Task::Time), [path]) => time_file(rt, path.as_str()),
+        (Some(Task::Help), []) => Ok(println!(rt; "{USAGE}")?),
+        _ => bail!("not a command, or not one FILE: see scoreline help"),
     }
 }
 

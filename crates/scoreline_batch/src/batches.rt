@@ -1,13 +1,13 @@
 use crate::commands::carry_out_one;
-use crate::files::read_file;
 use crate::tasks::{Task, task_of};
+use reports::read_file;
 
 // Carries out the command in a line, if there is one.
 fn carry_out_line(rt: &HostRuntime, line: &str) -> anyhow::Result<()> {
-    let mut words = Vec::new(rt.alloc());
-    for word in line.split_whitespace() {
-        words.push(String::from_str(rt.alloc(), word)?)?;
-    }
+    let words: Vec<String> = line
+        .split_whitespace()
+        .map(|word| String::from_str(rt.alloc(), word))
+        .try_collect(rt.alloc())?;
     carry_out_one(rt, words.as_slice())
 }
 
@@ -29,7 +29,9 @@ fn carry_out_file(rt: &HostRuntime, path: &str) -> anyhow::Result<()> {
 /// Carries out a command, given by its words, or a batch of them.
 pub fn carry_out(rt: &HostRuntime, words: &[String]) -> anyhow::Result<()> {
     match words {
-        [word, path] if task_of(word.as_str()) == Task::Batch => carry_out_file(rt, path.as_str()),
+        [word, path] if task_of(word.as_str()) == Some(Task::Batch) => {
+            carry_out_file(rt, path.as_str())
+        }
         _ => carry_out_one(rt, words),
     }
 }

@@ -1,6 +1,7 @@
+use crate::checks;
 use crate::tasks::{Task, task_of};
-use crate::{checks, files};
-use anyhow::anyhow;
+use anyhow::bail;
+use reports::{audit_file, time_file};
 
 const USAGE: &str =
     "scoreline audit FILE      says of each line of FILE how many symbols it has, or why it is refused
@@ -12,14 +13,14 @@ scoreline help            prints this";
 /// Carries out one command, given by its words. A batch is not one.
 pub fn carry_out_one(rt: &HostRuntime, words: &[String]) -> anyhow::Result<()> {
     let [word, others @ ..] = words else {
-        return Err(anyhow!("no command: see scoreline help"));
+        bail!("no command: see scoreline help");
     };
     match (task_of(word.as_str()), others) {
-        (Task::Audit, [path]) => files::audit_file(rt, path.as_str()),
-        (Task::Time, [path]) => files::time_file(rt, path.as_str()),
-        (Task::Check, [_, ..]) => checks::check_files(rt, others),
-        (Task::Help, []) => Ok(println!(rt; "{USAGE}")?),
-        (Task::Batch, _) => Err(anyhow!("a batch is one FILE, and stands in no batch")),
-        _ => Err(anyhow!("not a command, or not its words: see scoreline help")),
+        (Some(Task::Scoreline(audit::Task::Audit)), [path]) => audit_file(rt, path.as_str()),
+        (Some(Task::Scoreline(audit::Task::Time)), [path]) => time_file(rt, path.as_str()),
+        (Some(Task::Scoreline(audit::Task::Help)), []) => Ok(println!(rt; "{USAGE}")?),
+        (Some(Task::Check), [_, ..]) => checks::check_files(rt, others),
+        (Some(Task::Batch), _) => bail!("a batch is one FILE, and stands in no batch"),
+        _ => bail!("not a command, or not its words: see scoreline help"),
     }
 }

@@ -4,18 +4,12 @@
 mod batches;
 mod checks;
 mod commands;
-mod files;
 mod tasks;
-#[cfg(test)]
-mod tests;
 
 use std::env;
 
 fn run(rt: &HostRuntime) -> anyhow::Result<()> {
-    let mut words = Vec::new(rt.alloc());
-    for word in env::args(rt)?.skip(1) {
-        words.push(word)?;
-    }
+    let words: Vec<String> = env::args(rt)?.skip(1).collect(rt.alloc())?;
     batches::carry_out(rt, words.as_slice())
 }
 

@@ -1,31 +1,20 @@
 ghost use Rattle.scoreline_batch.specs.Tasks.{Asks};
 
-/// What the program can be asked for.
+/// What the program can be asked for: what `scoreline` can, and two tasks more.
 #[derive(Clone, Copy, PartialEq, Eq, Debug)]
 pub enum Task {
-    Audit,
-    Time,
+    Scoreline(audit::Task),
     Check,
     Batch,
-    Help,
-    Unknown,
 }
 
-/// The task that a word names.
-pub fn task_of(word: &str) -> Task
+/// The task that a word names, or `None` where it names none.
+pub fn task_of(word: &str) -> Option<Task>
     ensures { Asks word.now result }
 {
-    if word == "audit" {
-        Task::Audit
-    } else if word == "time" {
-        Task::Time
-    } else if word == "check" {
-        Task::Check
-    } else if word == "batch" {
-        Task::Batch
-    } else if word == "help" {
-        Task::Help
-    } else {
-        Task::Unknown
+    match word {
+        "check" => Some(Task::Check),
+        "batch" => Some(Task::Batch),
+        _ => audit::task_of(word).map(Task::Scoreline),
     }
 }

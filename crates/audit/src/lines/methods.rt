@@ -1,23 +1,15 @@
-ghost use Rattle.std.specs.Prelude.{◌≡◌, ℕ, ◌+◌, ◌<◌, ◌≤◌, List, [], ◌∷◌, length, Some, None, ◌≢◌, slice_index};
+ghost use Rattle.std.specs.Prelude.{◌≡◌, ℕ, ◌+◌, ◌<◌, ◌≤◌, ◌==◌, List, [], ◌∷◌, length, not, Some, None};
+ghost use Rattle.std.specs.List.{prefix_len};
+ghost use Rattle.std.specs.Iterator.{YieldsFirstRef, at_most};
 ghost use Rattle.audit.specs.Lines.{Cut, lines_of, left, bytes_left};
 
 use super::Lines;
 
-// The line feed.
-const FEED: u8 = 10;
-
-// The index of the first line feed at `from` or after it, or the length where there is none.
-fn line_end(recording: &[u8], from: usize) -> usize
-    requires { from ≤ length recording.now }
-    ensures within { (from ≤ result) × (result ≤ length recording.now) }
-    ensures before { (k : ℕ) → from ≤ k → k < result → slice_index recording.now k ≢ 10 }
-    ensures found { result < length recording.now → slice_index recording.now result ≡ 10 }
+// How many bytes stand before the first line feed.
+fn line_len(bytes: &[u8]) -> usize
+    ensures { result ≡ prefix_len (λ b. not (b == 10)) bytes.now }
 {
-    let mut end = from;
-    while end < recording.len() && recording[end] != FEED {
-        end += 1;
-    }
-    end
+    bytes.iter().take_while(|byte| **byte != b'\n').count()
 }
 
 impl<'a> Lines<'a> {
@@ -44,13 +36,24 @@ impl<'a> Lines<'a> {
         ] }
         ensures recording { self.new.recording.now ≡ self.old.recording.now }
     {
-        let recording = self.recording;
-        let start = self.at;
-        if start == recording.len() {
+        let rest = &self.recording[self.at..];
+        if rest.is_empty() {
             return None;
         }
-        let end = line_end(recording, start);
-        self.at = if end < recording.len() { end + 1 } else { end };
-        Some(&recording[start..end])
+        let line = &rest[..line_len(rest)];
+        self.at = (self.at + line.len() + 1).min(self.recording.len());
+        Some(line)
+    }
+}
+
+impl<'a> Iterator for Lines<'a> {
+    type Item = &'a [u8];
+
+    ghost next_gives = { YieldsFirstRef left };
+
+    ghost remaining = { λ s. at_most (bytes_left s) };
+
+    fn next(&mut self) -> Option<&'a [u8]> {
+        self.next_line()
     }
 }

@@ -6,7 +6,7 @@ ghost use Rattle.audit.specs.Totals.{counted, total_in, total_of, Fit};
 
 use super::{Audit, Totals};
 use crate::lines::Lines;
-use crate::report::{Report, audit_line};
+use crate::report::{Read, Report, audit_line};
 use std::fmt;
 
 impl Totals {
@@ -17,12 +17,12 @@ impl Totals {
     {
         let lines = self.lines + 1;
         match report {
-            Report::Read { symbols, .. } => Totals {
+            Ok(Read { symbols, .. }) => Totals {
                 lines,
                 symbols: self.symbols + symbols,
                 ..self
             },
-            Report::Refused(_) => Totals {
+            Err(_) => Totals {
                 lines,
                 refused: self.refused + 1,
                 ..self
@@ -41,11 +41,7 @@ impl<'a> Audit<'a> {
     {
         Audit {
             ahead: Lines::of(recording),
-            totals: Totals {
-                lines: 0,
-                symbols: 0,
-                refused: 0,
-            },
+            totals: Totals::default(),
         }
     }
 

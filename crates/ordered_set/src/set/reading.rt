@@ -33,8 +33,7 @@ impl<T: Element> OrderedSet<'_, T> {
     pub fn as_slice(&self) -> &[T]
         ensures { result.now ≡ members self.now }
     {
-        let items = &*self.items;
-        &items[0..self.len]
+        &self.items[..self.len]
     }
 
     /// The index of the member that is equal to `x`, where there is one.
@@ -42,12 +41,6 @@ impl<T: Element> OrderedSet<'_, T> {
         ensures answers { result ≡ position T.alike x.now (members self.now) }
         ensures means { Sought x.now (members self.now) result }
     {
-        let members = self.as_slice();
-        for (i, y) in members.iter().enumerate() {
-            if y.same(x) {
-                return Some(i);
-            }
-        }
-        None
+        self.as_slice().iter().position(|y| y.same(x))
     }
 }

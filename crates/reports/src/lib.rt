@@ -1,5 +1,12 @@
+//! Reports on files, as the programs print them: what an audit of a recording says, and how long a walk takes.
+// The functions have no clauses: what a file holds, a clock tells and a program prints is in no proof.
+#![tactic(auto)]
+
+#[cfg(test)]
+mod tests;
+
 use anyhow::anyhow;
-use audit::{Audit, walk};
+use audit::{Audit, Walked, walk};
 use input::{Source, Utf8Source};
 use std::fs;
 use std::time::Instant;
@@ -7,11 +14,10 @@ use std::time::Instant;
 // How often a text is walked to measure it; the fastest walk counts.
 const WALKS: u32 = 100;
 
-fn read_file(rt: &HostRuntime, path: &str) -> anyhow::Result<Vec<u8>> {
-    match fs::read(rt, path) {
-        Ok(bytes) => Ok(bytes),
-        Err(error) => Err(anyhow!(format!(in rt.alloc(); "cannot read {path}: {error}")?)),
-    }
+/// The bytes of a file.
+// Not `context`, which keeps the reason as a cause: it is to be told in the same line.
+pub fn read_file(rt: &HostRuntime, path: &str) -> anyhow::Result<Vec<u8>> {
+    fs::read(rt, path).map_err(|error| anyhow!("cannot read {path}: {error}"))
 }
 
 /// Prints what there is to say of each line of a file, and the totals.
@@ -20,7 +26,10 @@ pub fn audit_file(rt: &HostRuntime, path: &str) -> anyhow::Result<()> {
     let mut audit = Audit::of(recording.as_slice());
     while let Some(report) = audit.next_report() {
         let n = audit.totals().lines;
-        println!(rt; "line {n}: {report}")?;
+        match report {
+            Ok(read) => println!(rt; "line {n}: {read}")?,
+            Err(fault) => println!(rt; "line {n}: {fault}")?,
+        }
     }
     let totals = audit.totals();
     println!(rt; "{totals}")?;
@@ -31,9 +40,9 @@ pub fn audit_file(rt: &HostRuntime, path: &str) -> anyhow::Result<()> {
 pub fn time_file(rt: &HostRuntime, path: &str) -> anyhow::Result<()> {
     let bytes = read_file(rt, path)?;
     let mut source = Utf8Source::new();
-    if let Err(fault) = source.open(bytes.as_slice()) {
-        return Err(anyhow!(format!(in rt.alloc(); "{fault}")?));
-    }
+    source
+        .open(bytes.as_slice())
+        .map_err(|fault| anyhow!("{fault}"))?;
     let mut fastest = u128::MAX;
     let mut walked = walk(&mut source);
     for _ in 0..WALKS {
@@ -42,8 +51,7 @@ pub fn time_file(rt: &HostRuntime, path: &str) -> anyhow::Result<()> {
         walked = walk(&mut source);
         fastest = fastest.min(start.elapsed(rt)?.as_nanos());
     }
-    let symbols = walked.symbols;
-    let feeds = walked.feeds;
+    let Walked { symbols, feeds } = walked;
     let picos = fastest.saturating_mul(1000) / u128::from((symbols as u64).max(1));
     let whole = picos / 1000;
     let part = picos % 1000;

@@ -1,7 +1,0 @@
-use crate::files::{audit_file, time_file};
-
-#[test]
-fn a_missing_file_is_an_error(rt: HostRuntime) {
-    assert!(rt; audit_file(&rt, "no/such/file").is_err());
-    assert!(rt; time_file(&rt, "no/such/file").is_err());
-}

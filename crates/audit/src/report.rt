@@ -20,8 +20,7 @@ pub type Report = Result<Read, Fault>;
 pub fn audit_line(line: &[u8]) -> Report
     ensures { Audited line.now result }
 {
-    let mut source = Utf8Source::new();
-    source.open(line)?;
+    let mut source = Utf8Source::try_from(line)?;
     Ok(Read {
         symbols: walk(&mut source).symbols,
         bytes: line.len(),

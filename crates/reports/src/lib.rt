@@ -39,10 +39,7 @@ pub fn audit_file(rt: &HostRuntime, path: &str) -> anyhow::Result<()> {
 /// Walks a file as one text, and prints how long a symbol took in the fastest walk.
 pub fn time_file(rt: &HostRuntime, path: &str) -> anyhow::Result<()> {
     let bytes = read_file(rt, path)?;
-    let mut source = Utf8Source::new();
-    source
-        .open(bytes.as_slice())
-        .map_err(|fault| anyhow!("{fault}"))?;
+    let mut source = Utf8Source::try_from(bytes.as_slice())?;
     let mut fastest = u128::MAX;
     let mut walked = walk(&mut source);
     for _ in 0..WALKS {

@@ -17,7 +17,7 @@ pub struct Totals {
 }
 
 /// An audit of a recording, line by line: the lines that are still to come, and the totals of those before them.
-// No `Iterator`: a `for` would hold the audit, and callers ask for the totals between two lines.
+// No `Iterator`: a `for` would borrow the audit, and callers ask for the totals between two lines.
 #[derive(Drop)]
 pub struct Audit<'a> {
     ahead: Lines<'a>,

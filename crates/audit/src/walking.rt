@@ -22,6 +22,7 @@ pub fn walk<S: Source>(source: &mut S) -> Walked
 {
     let mut symbols = 0;
     let mut feeds = 0;
+    // A source is looked at and then stepped over, and can go back: it is no `Iterator`.
     loop {
         let symbol = source.look();
         if symbol < 0 {

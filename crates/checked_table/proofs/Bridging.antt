@@ -14,8 +14,8 @@ use Rattle.rounds.specs.Rounds as graphs
 use Rattle.rounds.specs.Rounds.{Graph, Sound, has, Step, along, back, standing}
 use Rattle.checked_table.specs.declared.parts.State.{State}
 use Rattle.checked_table.specs.declared.parts.Transition.{Transition}
-use Rattle.checked_table.specs.declared.parts.TransitionKind.{TransitionKind}
-use Rattle.checked_table.specs.declared.parts.TransitionKind.TheVariants.{Epsilon, Range, Rule, Predicate, Atom, Action, Set, NotSet, Wildcard}
+use Rattle.image.specs.declared.kinds.TransitionKind.{TransitionKind}
+use Rattle.image.specs.declared.kinds.TransitionKind.TheVariants.{Epsilon, Range, Rule, Predicate, Atom, Action, Set, NotSet, Wildcard}
 use Rattle.image.specs.Numbers.{end_of_text}
 use Rattle.checked_table.specs.Atn.{Atn, state_at, transition_at, outs, stops, is_stop, matches}
 use Rattle.checked_table.specs.Formed.{Formed}
@@ -63,44 +63,35 @@ kind_same a (Set first count) target f = on_end (matches a (Set first count) end
 kind_same a (NotSet first count) target f = refl
 kind_same a Wildcard target f = refl
 
-silent_call : {A : Type 0} → Silent ≡ Call → A
-silent_call e = let z : ◌≡◌ {A = ℕ} 0 1 = cc in absurd (omega arith)
-
-reads_call : {A : Type 0} → Reads ≡ Call → A
-reads_call e = let z : ◌≡◌ {A = ℕ} 0 1 = cc in absurd (omega arith)
-
 end_call : {A : Type 0} (b : Bool) → cond b Silent Reads ≡ Call → A
-end_call true e = silent_call e
-end_call false e = reads_call e
+end_call true e = absurd cc
+end_call false e = absurd cc
 
 -- Only a call is passed as one.
 is_call : (a : Atn) (kind : TransitionKind) → passing_of a kind ≡ Call → (rule : ℕ) × (follow : ℕ) × (kind ≡ Rule rule follow)
-is_call a Epsilon e = silent_call e
+is_call a Epsilon e = absurd cc
 is_call a (Range low high) e = end_call (matches a (Range low high) end_of_text) e
 is_call a (Rule rule follow) e = (rule, follow, refl)
-is_call a (Predicate rule predicate) e = silent_call e
+is_call a (Predicate rule predicate) e = absurd cc
 is_call a (Atom label) e = end_call (matches a (Atom label) end_of_text) e
-is_call a (Action action) e = silent_call e
+is_call a (Action action) e = absurd cc
 is_call a (Set first count) e = end_call (matches a (Set first count) end_of_text) e
-is_call a (NotSet first count) e = reads_call e
-is_call a Wildcard e = reads_call e
+is_call a (NotSet first count) e = absurd cc
+is_call a Wildcard e = absurd cc
 
 -- A step that can be made under some judge can be made openly.
 module _ (a : Atn) (judge : ℕ → ℕ → Bool) (at_end : Bool) where
   abbrev here : Here
   here = record { atn = a; judge = judge; at_end = at_end }
 
-  never : {A : Type 0} {g : Stand} → None ≡ Some g → A
-  never e = let z : ◌≡◌ {A = ℕ} 0 1 = cc in absurd (omega arith)
-
   -- Where the one test lets it pass, the other does.
   passed_end : (end b : Bool) (x g : Stand) → cond (end && b) (Some x) None ≡ Some g → cond b (Some x) None ≡ Some g
   passed_end true b x g e = e
-  passed_end false b x g e = never e
+  passed_end false b x g e = absurd cc
 
   passed_judge : (b : Bool) (x g : Stand) → cond b (Some x) None ≡ Some g → Some x ≡ Some g
   passed_judge true x g e = e
-  passed_judge false x g e = never e
+  passed_judge false x g e = absurd cc
 
   passes_open : (kind : TransitionKind) (target : ℕ) (f g : Stand) → passes here (record { kind = kind; target = target }) f ≡ Some g → passes (openly a) (record { kind = kind; target = target }) f ≡ Some g
   unfolding passes
@@ -115,7 +106,7 @@ module _ (a : Atn) (judge : ℕ → ℕ → Bool) (at_end : Bool) where
   passes_open Wildcard target f g e = passed_end at_end false (move_to target f) g e
 
   then_open : (o : Option Transition) (f g : Stand) → option_and_then (λ t. passes here t f) o ≡ Some g → option_and_then (λ t. passes (openly a) t f) o ≡ Some g
-  then_open None f g e = never e
+  then_open None f g e = absurd cc
   then_open (Some t) f g e = passes_open t.kind t.target f g e
 
   opened : (x : Step) (f g : Stand) → step here x f ≡ Some g → step (openly a) x f ≡ Some g
@@ -229,9 +220,6 @@ module _ (a : Atn) (formed : Formed a) where
   offset s (along t) = along (t - (state_at a s).first)
   offset s back = back
 
-  none_never : {A : Type 0} (q : graphs.Stand) → ◌≡◌ {A = maybe.Option graphs.Stand} none (some q) → A
-  none_never q e = let z : ◌≡◌ {A = ℕ} 0 1 = cc in absurd (omega arith)
-
   -- A step of the graph that can be made is the one for its step of the table.
   offset_same : (y : Step) (p q : graphs.Stand) → graphs.step (graph_of a) y p ≡ some q → numbered p.state (offset p.state y) ≡ y
   offset_same (along t) p q e = go (has (graph_of a) p.state t) refl e
@@ -244,11 +232,11 @@ module _ (a : Atn) (formed : Formed a) where
           let inside : first ≤ t = leb-true first t (and_parts _ _ h).0 in
           let same : first + (t - first) ≡ t = omega arith in
           ap along same
-      go false h i = none_never q i
+      go false h i = absurd cc
   offset_same back p q e = refl
 
   some_back : (o : Option Stand) (q : graphs.Stand) → project o ≡ some q → (f : Stand) × (o ≡ Some f) × (standing f.state f.returns ≡ q)
-  some_back None q e = none_never q e
+  some_back None q e = absurd cc
   some_back (Some f) q e = (f, refl, cc)
 
   step_back : (y : Step) (f : Stand) (q : graphs.Stand) → graphs.step (graph_of a) y (standing f.state f.returns) ≡ some q
@@ -272,7 +260,7 @@ module _ (a : Atn) (formed : Formed a) where
     where
       go : (o : maybe.Option graphs.Stand) → graphs.step (graph_of a) y (standing f.state f.returns) ≡ o → graphs.and_then o (graphs.walk (graph_of a) ys) ≡ some q
           → (xs : List Step) × (g : Stand) × (option_and_then (walk (openly a) xs) (step (openly a) (offset f.state y) f) ≡ Some g) × (standing g.state g.returns ≡ q)
-      go none h i = none_never q i
+      go none h i = absurd cc
       go (some p) h i =
           let there = step_back y f p h in
           let rest = back_from there.0 q (ap (graphs.walk (graph_of a) ys) there.2 ∙ i) in

@@ -1,5 +1,5 @@
 -- One fault is told of an image, and none of one that keeps the rules.
-use Rattle.std.proofs.Common.{◌≡◌, ℕ, List, ℤ, sym, ap, ◌∙◌}
+use Rattle.std.proofs.Common.{◌≡◌, ◌↔◌, ℕ, true, false, List, ℤ, sym, ap, ◌∙◌}
 use Rattle.input.specs.Faults.{notice}
 use Rattle.input.specs.declared.fault.Notice.{Notice}
 use Rattle.input.specs.declared.fault.Part.TheVariants.{Table}
@@ -22,6 +22,10 @@ module _ (image : List ℤ) where
   faulty_breaks t (layout b) (l, keep, ends) = layout_laid image (counts_of s) t b l
   faulty_breaks t («record» l at first e) (_, keep, ends) = breaks_keeps image s at first.0 keep
   faulty_breaks t (round l keep k lowest e) (_, _, ends) = ends k lowest.1
+
+  -- So a refusal that tells what is faulty answers no, rightly.
+  pub refused : (t : Notice) → Faulty image t → (false ≡ true) ↔ Keeps image
+  refused t f = (λ (e : false ≡ true). absurd cc, λ keeps. absurd (faulty_breaks t f keeps))
 
   faulty_one : (t u : Notice) → Faulty image t → Faulty image u → u ≡ t
   faulty_one t u (layout a) (layout b) = sym (layout_one image t u a b)

@@ -1,5 +1,6 @@
 pub mod Listing
 pub mod Holding
+pub mod Opening
 pub mod Matching
 pub mod Bridging
 pub mod Judging

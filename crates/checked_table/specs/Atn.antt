@@ -1,15 +1,15 @@
 -- What a table means: an augmented transition network, and what its transitions match.
 use Rattle.std.specs.Prelude.{ℕ, ◌+◌, ◌≤◌, Bool, true, false, not, ◌&&◌, ◌||◌, List, [], ◌∷◌, length, take, drop, ℤ, pos, slice_index, slice_index_or}
 use Rattle.image.specs.declared.raw.Interval.{Interval}
-use Rattle.checked_table.specs.declared.parts.LexerAction.{LexerAction}
-use Rattle.checked_table.specs.declared.parts.LexerAction.TheVariants.{More}
+use Rattle.image.specs.declared.kinds.LexerAction.{LexerAction}
+use Rattle.image.specs.declared.kinds.LexerAction.TheVariants.{More}
 use Rattle.checked_table.specs.declared.parts.Rule.{Rule}
 use Rattle.checked_table.specs.declared.parts.State.{State}
-use Rattle.checked_table.specs.declared.parts.StateKind.{StateKind}
-use Rattle.checked_table.specs.declared.parts.StateKind.TheVariants.{Basic, RuleStart, TokensStart, RuleStop}
+use Rattle.image.specs.declared.kinds.StateKind.{StateKind}
+use Rattle.image.specs.declared.kinds.StateKind.TheVariants.{Basic, RuleStart, TokensStart, RuleStop}
 use Rattle.checked_table.specs.declared.parts.Transition.{Transition}
-use Rattle.checked_table.specs.declared.parts.TransitionKind.{TransitionKind}
-use Rattle.checked_table.specs.declared.parts.TransitionKind.TheVariants.{Epsilon, Range, Rule as Call, Predicate, Atom, Action, Set, NotSet, Wildcard}
+use Rattle.image.specs.declared.kinds.TransitionKind.{TransitionKind}
+use Rattle.image.specs.declared.kinds.TransitionKind.TheVariants.{Epsilon, Range, Rule as Call, Predicate, Atom, Action, Set, NotSet, Wildcard}
 use Rattle.image.specs.Numbers.{between}
 
 pub record Atn : Type 0 where
@@ -64,6 +64,10 @@ silent (Action action) = true
 silent (Set first count) = false
 silent (NotSet first count) = false
 silent Wildcard = false
+
+-- x lies in interval i.
+unfoldable pub interval_has : Atn → ℕ → ℤ → Bool
+interval_has a i x = between (interval_at a i).low (interval_at a i).high x
 
 -- x lies in one of the intervals.
 unfoldable pub within : List Interval → ℤ → Bool

@@ -1,19 +1,14 @@
 -- What the image of a table means.
-use Rattle.std.specs.Prelude.{ℕ, zero, suc, cond, List, [], ◌∷◌, ℤ}
-use Rattle.checked_table.specs.declared.parts.LexerAction.{LexerAction}
-use Rattle.checked_table.specs.declared.parts.LexerAction.TheVariants.{Channel, Mode, More, PopMode, PushMode, Skip, «Type» as TokenType}
+use Rattle.std.specs.Prelude.{ℕ, zero, suc, List, [], ◌∷◌, ℤ}
 use Rattle.checked_table.specs.declared.parts.Rule.{Rule}
 use Rattle.checked_table.specs.declared.parts.State.{State}
-use Rattle.checked_table.specs.declared.parts.StateKind.{StateKind}
-use Rattle.checked_table.specs.declared.parts.StateKind.TheVariants.{Basic, RuleStart, TokensStart, RuleStop}
 use Rattle.checked_table.specs.declared.parts.Transition.{Transition}
-use Rattle.checked_table.specs.declared.parts.TransitionKind.{TransitionKind}
-use Rattle.checked_table.specs.declared.parts.TransitionKind.TheVariants.{Epsilon, Range, Rule as Call, Predicate, Atom, Action, Set, NotSet, Wildcard}
 use Rattle.image.specs.declared.raw.RawState.{RawState}
 use Rattle.image.specs.declared.raw.RawTransition.{RawTransition}
 use Rattle.image.specs.declared.raw.RawRule.{RawRule}
 use Rattle.table.specs.declared.sections.Sections.{Sections}
 use Rattle.image.specs.Spans.{sections_of}
+use Rattle.image.specs.Kinds.{state_kind_of, transition_kind_of, action_of}
 use Rattle.image.specs.Numbers.{natural, is}
 use Rattle.image.specs.Raw.{raw_state, raw_transition, raw_interval, raw_mode, raw_rule, raw_action}
 use Rattle.checked_table.specs.Atn.{Atn}
@@ -22,9 +17,6 @@ use Rattle.checked_table.specs.Atn.{Atn}
 unfoldable pub listed : {A : Type 0} → (ℕ → A) → ℕ → List A
 listed f zero = []
 listed f (suc n) = f 0 ∷ listed (λ k. f (suc k)) n
-
-abbrev pub state_kind_of : ℤ → StateKind
-state_kind_of kind = cond (is kind 1) Basic (cond (is kind 2) RuleStart (cond (is kind 6) TokensStart RuleStop))
 
 abbrev pub state_of : RawState → State
 state_of r =
@@ -36,33 +28,11 @@ state_of r =
       count = natural r.count;
     }
 
-abbrev pub transition_kind_of : ℤ → ℤ → ℤ → TransitionKind
-transition_kind_of kind p q =
-    cond (is kind 1) Epsilon
-    (cond (is kind 2) (Range p q)
-    (cond (is kind 3) (Call (natural q) (natural p))
-    (cond (is kind 4) (Predicate (natural p) (natural q))
-    (cond (is kind 5) (Atom p)
-    (cond (is kind 6) (Action (natural p))
-    (cond (is kind 7) (Set (natural p) (natural q))
-    (cond (is kind 8) (NotSet (natural p) (natural q))
-    Wildcard)))))))
-
 abbrev pub transition_of : RawTransition → Transition
 transition_of r = record { kind = transition_kind_of r.kind r.p r.q; target = natural r.target }
 
 abbrev pub rule_of : RawRule → Rule
 rule_of r = record { start = natural r.start; stop = natural r.stop; token_type = natural r.token_type }
-
-abbrev pub action_of : ℤ → ℤ → LexerAction
-action_of kind argument =
-    cond (is kind 0) (Channel (natural argument))
-    (cond (is kind 2) (Mode (natural argument))
-    (cond (is kind 3) More
-    (cond (is kind 4) PopMode
-    (cond (is kind 5) (PushMode (natural argument))
-    (cond (is kind 6) Skip
-    (TokenType (natural argument)))))))
 
 abbrev pub atn_of : List ℤ → Sections → Atn
 atn_of image s =

@@ -1,6 +1,6 @@
 -- What a table that keeps the rules looks like, in terms of its meaning.
 use Rattle.std.specs.Prelude.{◌≡◌, ℕ, ◌+◌, ◌<◌, ◌≤◌, length}
-use Rattle.checked_table.specs.declared.parts.TransitionKind.TheVariants.{Rule}
+use Rattle.image.specs.declared.kinds.TransitionKind.TheVariants.{Rule}
 use Rattle.checked_table.specs.Atn.{Atn, state_at, transition_at}
 
 pub record Formed (a : Atn) : Type 0 where

@@ -1,11 +1,11 @@
 -- A table as an automaton of which only the silent steps count, and the measure that they take down.
-use Rattle.std.specs.Prelude.{ℕ, cond, length}
+use Rattle.std.specs.Prelude.{◌≡◌, ℕ, ◌<◌, cond, List, length, slice_index_or}
 use Rattle.rounds.specs.declared.passing.Passing.{Passing}
 use Rattle.rounds.specs.declared.passing.Passing.TheVariants.{Silent, Call, Reads}
 use Rattle.rounds.specs.Rounds.{Graph}
 use Rattle.rounds.specs.Rank.{total as total_of}
-use Rattle.checked_table.specs.declared.parts.TransitionKind.{TransitionKind}
-use Rattle.checked_table.specs.declared.parts.TransitionKind.TheVariants.{Epsilon, Range, Rule, Predicate, Atom, Action, Set, NotSet, Wildcard}
+use Rattle.image.specs.declared.kinds.TransitionKind.{TransitionKind}
+use Rattle.image.specs.declared.kinds.TransitionKind.TheVariants.{Epsilon, Range, Rule, Predicate, Atom, Action, Set, NotSet, Wildcard}
 use Rattle.image.specs.Numbers.{end_of_text}
 use Rattle.checked_table.specs.Atn.{Atn, state_at, transition_at, is_stop, matches}
 use Rattle.checked_table.specs.Steps.{Stand}
@@ -50,3 +50,7 @@ graph_of a =
 -- The measure of a stand: every silent step takes it down where no state goes round.
 abbrev pub total : Atn → Stand → ℕ
 total a f = total_of (graph_of a) f.state f.returns
+
+-- How each transition is passed is noted in a list.
+abbrev pub Noted : Atn → List Passing → Type 0
+Noted a passings = (t : ℕ) → t < length a.transitions → slice_index_or passings t Silent ≡ passing_of a (transition_at a t).kind

@@ -8,3 +8,4 @@ pub mod Graphs
 pub mod Checking
 pub mod Tables
 pub mod Laws
+pub mod Shown

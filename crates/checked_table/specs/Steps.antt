@@ -3,8 +3,8 @@ use Rattle.std.specs.Prelude.{◌≡◌, ℕ, ◌<◌, Bool, true, false, cond, 
 use Rattle.std.specs.List.{slice_get}
 use Rattle.rounds.specs.Rounds.{Step, along, back}
 use Rattle.checked_table.specs.declared.parts.Transition.{Transition}
-use Rattle.checked_table.specs.declared.parts.TransitionKind.{TransitionKind}
-use Rattle.checked_table.specs.declared.parts.TransitionKind.TheVariants.{Epsilon, Range, Rule as Call, Predicate, Atom, Action, Set, NotSet, Wildcard}
+use Rattle.image.specs.declared.kinds.TransitionKind.{TransitionKind}
+use Rattle.image.specs.declared.kinds.TransitionKind.TheVariants.{Epsilon, Range, Rule as Call, Predicate, Atom, Action, Set, NotSet, Wildcard}
 use Rattle.image.specs.Numbers.{end_of_text}
 use Rattle.checked_table.specs.Atn.{Atn, outs, is_stop, silent, matches}
 

@@ -1,23 +1,24 @@
 ghost use Rattle.input.specs.Faults.{told};
-ghost use Rattle.std.specs.Prelude.{Ok, Err};
+ghost use Rattle.std.specs.Prelude.{◌↔◌, IsOk, IfErr};
 ghost use Rattle.checked_table.specs.Checking.{Keeps, Faulty};
 
 use crate::records::Records;
 use crate::rounding::lowest_round;
-use image::broken_place;
+use image::Image;
 use input::Fault;
 use table::Sections;
 
 /// Checks an image: it passes exactly when it keeps the rules of a table, else the first fault is told.
 pub fn check(image: &[i32]) -> Result<(), Fault>
-    ensures passes { elim result [ Ok u ↦ Keeps image.now | Err f ↦ (Keeps image.now → ⊥) ] }
-    ensures tells { elim result [ Ok u ↦ (Unit {0}) | Err f ↦ Faulty image.now (told f) ] }
+    ensures passes { IsOk result ↔ Keeps image.now }
+    ensures tells { IfErr result (λ fault. Faulty image.now (told fault)) }
 {
-    let s = Sections::of(image)?;
-    if let Some(at) = broken_place(image, s) {
+    let sections = Sections::of(image)?;
+    let image = Image::over(image, sections);
+    if let Some(at) = image.broken_place() {
         return Err(Fault::RecordBreaksRule(at));
     }
-    let records = Records::over(image, s);
+    let records = Records::over(image);
     match lowest_round(&records) {
         Some(state) => Err(Fault::GoesRound(state)),
         None => Ok(()),

@@ -4,7 +4,6 @@
 mod checked;
 mod checking;
 mod counts;
-mod decoding;
 mod laws;
 mod parts;
 mod passings;
@@ -15,5 +14,7 @@ mod silent;
 pub use checked::Table;
 pub use checking::check;
 pub use counts::Counts;
+pub use image::{LexerAction, StateKind, TransitionKind};
 pub use laws::one_fault_is_told;
-pub use parts::{LexerAction, Rule, State, StateKind, Transition, TransitionKind};
+pub use parts::{Rule, State, Transition};
+pub use records::Records;

@@ -1,18 +1,11 @@
-/// What a state is.
-#[derive(Clone, Copy)]
-pub enum StateKind {
-    Basic,
-    RuleStart,
-    /// The start of a mode: its transitions lead to the rules that the mode tries.
-    TokensStart,
-    RuleStop,
-}
+use image::{StateKind, TransitionKind};
 
 /// A state. Its transitions are the `count` ones from `first` on.
-#[derive(Clone, Copy)]
+#[derive(Clone, Copy, PartialEq, Eq, Debug)]
 pub struct State {
     pub kind: StateKind,
     /// The rule that the state belongs to; 0 at the start of a mode, which belongs to none.
+    // No `Option`: the meaning of a table has 0 there, and no call asks for it.
     pub rule: u16,
     /// A decision that would rather leave than go on.
     pub non_greedy: bool,
@@ -20,51 +13,17 @@ pub struct State {
     pub count: u16,
 }
 
-/// What a transition does, or which symbols it matches. Symbols are 0 to 1,114,111, and the end of the text is −1.
-#[derive(Clone, Copy)]
-pub enum TransitionKind {
-    Epsilon,
-    /// Matches the symbols from `low` to `high`.
-    Range { low: i32, high: i32 },
-    /// Calls a rule; at its stop the match goes on at `follow_state`.
-    Rule { rule: u16, follow_state: u16 },
-    /// Is passed where the judge says yes.
-    Predicate { rule: u16, predicate: u16 },
-    /// Matches one symbol.
-    Atom { label: i32 },
-    /// Notes an action.
-    Action { action: u16 },
-    /// Matches what lies in one of the `count` intervals from `first` on.
-    Set { first: u16, count: u16 },
-    /// Matches every symbol but the end of the text that lies in none of them.
-    NotSet { first: u16, count: u16 },
-    /// Matches every symbol but the end of the text.
-    Wildcard,
-}
-
 /// A transition: what it does, and the state that it leads to; a call leads to the start of its rule.
-#[derive(Clone, Copy)]
+#[derive(Clone, Copy, PartialEq, Eq, Debug)]
 pub struct Transition {
     pub kind: TransitionKind,
     pub target: u16,
 }
 
 /// A rule: its start, its stop, and the type of its tokens.
-#[derive(Clone, Copy)]
+#[derive(Clone, Copy, PartialEq, Eq, Debug)]
 pub struct Rule {
     pub start: u16,
     pub stop: u16,
     pub token_type: u16,
-}
-
-/// What is to be done with a token.
-#[derive(Clone, Copy)]
-pub enum LexerAction {
-    Channel(u16),
-    Mode(u16),
-    More,
-    PopMode,
-    PushMode(u16),
-    Skip,
-    Type(u16),
 }

@@ -1,4 +1,4 @@
-ghost use Rattle.std.specs.Prelude.{◌≤◌, length, MatchOption};
+ghost use Rattle.std.specs.Prelude.{MatchOption};
 ghost use Rattle.checked_table.specs.Means.{atn_in};
 ghost use Rattle.checked_table.specs.Steps.{NoRound, LowestRound};
 
@@ -7,19 +7,17 @@ use crate::records::Records;
 use crate::silent::SilentSteps;
 use rounds::{Passing, goes_round};
 
-// The lowest state that goes round silently, if there is one; how transitions are passed is noted on the way.
-fn lowest_round_noting(records: &Records, passings: &mut [Passing]) -> Option<usize>
-    requires { 16384 ≤ length passings.old }
-    ensures { MatchOption result (NoRound (atn_in records.now)) (LowestRound (atn_in records.now)) }
-{
-    note_passings(records, passings);
-    goes_round(&SilentSteps { records, passings })
-}
-
 /// The lowest state that goes round silently, if there is one.
 pub fn lowest_round(records: &Records) -> Option<usize>
     ensures { MatchOption result (NoRound (atn_in records.now)) (LowestRound (atn_in records.now)) }
 {
+    // One note for each of the most transitions that a table may have.
+    // Noted once: the search may ask for each transition 4,096 times, and a set may have 8,192 intervals.
     let mut passings = [Passing::Reads; 16384];
-    lowest_round_noting(records, &mut passings)
+    note_passings(records, &mut passings);
+    let steps = SilentSteps {
+        records,
+        passings: &passings,
+    };
+    goes_round(&steps)
 }

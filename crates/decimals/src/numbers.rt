@@ -21,6 +21,7 @@ fn size_of_digits(digits: &[u8]) -> Option<u32>
     if !is_digits(digits) {
         return None;
     }
+    // All saturates: past 32 bits only that is told, and a byte below `0`, which is none of the digits, would count 0.
     Some(
         digits.iter().fold(0, |size: u32, digit| {
             size.saturating_mul(10)
@@ -29,11 +30,12 @@ fn size_of_digits(digits: &[u8]) -> Option<u32>
     )
 }
 
-// The value of a word, or one past 32 bits where its own is further; `None` where it is no decimal number.
+// The value of a word, held between -4294967295 and 4294967295; `None` where it is no decimal number.
 // Not `parse`, which takes a `+`, and finds a word too large before it sees that a later byte is no digit.
 fn value_of(word: &[u8]) -> Option<i64>
     ensures digits { IsSome result ↔ (is_digits (unsigned word.now) ≡ true) }
-    ensures value { IfSome result (λ z. z ≡ with_sign (is_negative word.now) (min (size_of (unsigned word.now)) 4294967295)) }
+    ensures value { IfSome result
+        (λ z. z ≡ with_sign (is_negative word.now) (min (size_of (unsigned word.now)) 4294967295)) }
 {
     match word {
         [b'-', digits @ ..] => Some(-i64::from(size_of_digits(digits)?)),

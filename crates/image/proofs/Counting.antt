@@ -1,7 +1,6 @@
 -- Which transitions belong to which state.
 use Rattle.std.proofs.Common.{◌≡◌, ℕ, zero, suc, ◌+◌, ◌-◌, ◌<◌, ◌≤◌, true, eqb, List, ℤ, sym, refl, ap, ◌∙◌, ⊎_elim, add-zero, add-suc, add-one, arith}
 use Rattle.std.proofs.lemmas.Bool.{le-leb, lt-leb, eq-eqb, and_parts, cases_eq}
-use Rattle.image.specs.declared.raw.RawState.{RawState}
 use Rattle.image.specs.declared.sections.Section.TheVariants.{States}
 use Rattle.table.specs.declared.sections.Sections.{Sections}
 use Rattle.image.specs.Numbers.{natural}
@@ -24,10 +23,6 @@ module _ (image : List ℤ) (s : Sections) where
 
   pub counts_more : (k : ℕ) → before (k + 1) ≡ before k + natural (raw_state image s k).count
   counts_more k = ap before (add-one k) ∙ counts_suc k
-
-  -- The same, as a loop finds it.
-  pub counts_read : (k first n : ℕ) (r : RawState) → first ≡ before k → n ≡ natural r.count → r ≡ raw_state image s k → first + n ≡ before (k + 1)
-  counts_read k first n r f e h = omega (arith, f, e ∙ ap (λ (x : RawState). natural x.count) h, counts_more k)
 
   counts_rise : (j n : ℕ) → before j ≤ before (j + n)
   counts_rise j zero = omega (arith, ap before (add-zero j))

@@ -1,10 +1,11 @@
 -- Where sections are.
-use Rattle.std.proofs.Common.{◌≡◌, ℕ, ◌+◌, ◌*◌, List, length, ℤ, pos, sym, refl, ap, ◌∙◌, subst, arith}
+use Rattle.std.proofs.Common.{◌≡◌, ℕ, ◌+◌, ◌*◌, ◌<◌, ◌≤◌, List, [], ◌∷◌, length, get_or, zero, suc, ℤ, pos, sym, refl, ap, ◌∙◌, arith}
 use Rattle.table.specs.Layout.{Laid, number}
 use Rattle.image.specs.Numbers.{natural}
-use Rattle.image.specs.Spans.{PlacedWithin, Fits, span_at, sections_of}
+use Rattle.image.specs.Spans.{order_of, span_of, PlacedWithin, Fits, span_at, sections_of}
 use Rattle.table.specs.Spans.{forms, counts_of, Lies, Placed}
-use Rattle.image.specs.Spots.{Chained, Shaped}
+use Rattle.image.specs.Spots.{Chained}
+use Rattle.image.specs.declared.sections.Section.{Section}
 use Rattle.image.specs.declared.sections.Section.TheVariants.{States, Transitions, Intervals, Modes, Rules, Actions}
 use Rattle.table.specs.declared.sections.Sections.{Sections}
 use Rattle.table.specs.declared.sections.Span.{Span}
@@ -36,21 +37,25 @@ read_sections image s (states, transitions, intervals, modes, rules, actions) =
     let a = actions ∙ ap (λ (x : Span). span_at image x.end 2) r in
     λ j. record { states = states j; transitions = t j; intervals = i j; modes = m j; rules = r j; actions = a j }
 
-span_shaped : (image : List ℤ) (span : Span) (at width : ℕ) → span ≡ span_at image at width → span.end ≡ span.start + width * span.count
-span_shaped image span at width e = subst (λ (x : Span). x.end ≡ x.start + width * x.count) (sym e) refl
+-- The sections stand in their order.
+pub all_in_order : (i : ℕ) → i < 6 → order_of (get_or (States ∷ Transitions ∷ Intervals ∷ Modes ∷ Rules ∷ Actions ∷ []) i States) ≡ i
+all_in_order zero h = refl
+all_in_order (suc zero) h = refl
+all_in_order (suc (suc zero)) h = refl
+all_in_order (suc (suc (suc zero))) h = refl
+all_in_order (suc (suc (suc (suc zero)))) h = refl
+all_in_order (suc (suc (suc (suc (suc zero))))) h = refl
+all_in_order (suc (suc (suc (suc (suc (suc n)))))) h = absurd (omega arith)
 
-pub read_shaped : (image : List ℤ) (s : Sections) → ReadFrom image s → Shaped s
-read_shaped image s read States = span_shaped image s.states 0 5 read.0
-read_shaped image s read Transitions = span_shaped image s.transitions s.states.end 4 read.1
-read_shaped image s read Intervals = span_shaped image s.intervals s.transitions.end 2 read.2
-read_shaped image s read Modes = span_shaped image s.modes s.intervals.end 1 read.3
-read_shaped image s read Rules = span_shaped image s.rules s.modes.end 3 read.4
-read_shaped image s read Actions = span_shaped image s.actions s.rules.end 2 read.5
-
-pub read_chained : (image : List ℤ) (s : Sections) → ReadFrom image s → Chained s
-read_chained image s (states, transitions, intervals, modes, rules, actions) =
-    let start : Span → ℕ = λ x. x.start in
-    (ap start states, ap start transitions, ap start intervals, ap start modes, ap start rules, ap start actions)
+-- A section begins at most one index after the ends of those before it.
+pub starts_after : (s : Sections) (at : ℕ) (section : Section) → Chained s
+    → ((earlier : Section) → order_of earlier < order_of section → (span_of s earlier).end ≤ at) → (span_of s section).start ≤ at + 1
+starts_after s at States chained h = omega (arith, chained)
+starts_after s at Transitions chained h = omega (arith, chained, h States (omega arith))
+starts_after s at Intervals chained h = omega (arith, chained, h Transitions (omega arith))
+starts_after s at Modes chained h = omega (arith, chained, h Intervals (omega arith))
+starts_after s at Rules chained h = omega (arith, chained, h Modes (omega arith))
+starts_after s at Actions chained h = omega (arith, chained, h Rules (omega arith))
 
 module _ (image : List ℤ) (s : Sections) (laid : Laid forms image 0 (counts_of s)) (placed : Placed s) where
   placed_within : PlacedWithin s

@@ -1,6 +1,7 @@
 -- The records of an image as they stand there.
-use Rattle.std.specs.Prelude.{ℕ, zero, suc, ◌+◌, ◌*◌, cond, List, ℤ, nat_le}
+use Rattle.std.specs.Prelude.{ℕ, zero, suc, ◌+◌, cond, List, ℤ, nat_le}
 use Rattle.image.specs.declared.raw.Interval.{Interval}
+use Rattle.image.specs.declared.raw.RawMode.{RawMode}
 use Rattle.image.specs.declared.raw.RawState.{RawState}
 use Rattle.image.specs.declared.raw.RawTransition.{RawTransition}
 use Rattle.image.specs.declared.raw.RawRule.{RawRule}
@@ -8,7 +9,10 @@ use Rattle.image.specs.declared.raw.RawAction.{RawAction}
 use Rattle.table.specs.declared.sections.Sections.{Sections}
 use Rattle.table.specs.Layout.{number}
 use Rattle.image.specs.Numbers.{natural}
+use Rattle.image.specs.Spans.{place_of}
+use Rattle.image.specs.declared.sections.Section.TheVariants.{States, Transitions, Intervals, Modes, Rules, Actions}
 
+-- The record of a section whose first number stands at an index.
 abbrev pub state_from : List ℤ → ℕ → RawState
 state_from image at =
     record {
@@ -19,9 +23,6 @@ state_from image at =
       count = number image (at + 4);
     }
 
-abbrev pub raw_state : List ℤ → Sections → ℕ → RawState
-raw_state image s k = state_from image (s.states.start + 5 * k)
-
 abbrev pub transition_from : List ℤ → ℕ → RawTransition
 transition_from image at =
     record {
@@ -31,27 +32,36 @@ transition_from image at =
       q = number image (at + 3);
     }
 
+abbrev pub interval_from : List ℤ → ℕ → Interval
+interval_from image at = record { low = number image at; high = number image (at + 1) }
+
+abbrev pub mode_from : List ℤ → ℕ → RawMode
+mode_from image at = record { start = number image at }
+
+abbrev pub rule_from : List ℤ → ℕ → RawRule
+rule_from image at = record { start = number image at; stop = number image (at + 1); token_type = number image (at + 2) }
+
+abbrev pub action_from : List ℤ → ℕ → RawAction
+action_from image at = record { kind = number image at; argument = number image (at + 1) }
+
+-- Record k of a section.
+abbrev pub raw_state : List ℤ → Sections → ℕ → RawState
+raw_state image s k = state_from image (place_of s States k)
+
 abbrev pub raw_transition : List ℤ → Sections → ℕ → RawTransition
-raw_transition image s k = transition_from image (s.transitions.start + 4 * k)
+raw_transition image s k = transition_from image (place_of s Transitions k)
 
 abbrev pub raw_interval : List ℤ → Sections → ℕ → Interval
-raw_interval image s k =
-    record { low = number image (s.intervals.start + 2 * k); high = number image (s.intervals.start + 2 * k + 1) }
+raw_interval image s k = interval_from image (place_of s Intervals k)
 
 abbrev pub raw_mode : List ℤ → Sections → ℕ → ℤ
-raw_mode image s k = number image (s.modes.start + k)
+raw_mode image s k = (mode_from image (place_of s Modes k)).start
 
 abbrev pub raw_rule : List ℤ → Sections → ℕ → RawRule
-raw_rule image s k =
-    record {
-      start = number image (s.rules.start + 3 * k);
-      stop = number image (s.rules.start + 3 * k + 1);
-      token_type = number image (s.rules.start + 3 * k + 2);
-    }
+raw_rule image s k = rule_from image (place_of s Rules k)
 
 abbrev pub raw_action : List ℤ → Sections → ℕ → RawAction
-raw_action image s k =
-    record { kind = number image (s.actions.start + 2 * k); argument = number image (s.actions.start + 2 * k + 1) }
+raw_action image s k = action_from image (place_of s Actions k)
 
 -- the sum of the counts of the states before state k
 unfoldable pub counts_before : List ℤ → Sections → ℕ → ℕ

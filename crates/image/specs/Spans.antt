@@ -34,6 +34,10 @@ width_of Modes = 1
 width_of Rules = 3
 width_of Actions = 2
 
+-- where record k of a section starts
+abbrev pub place_of : Sections → Section → ℕ → ℕ
+place_of s section k = (span_of s section).start + width_of section * k
+
 -- the records of a section lie after the count at an index, and are so many at least and at most
 abbrev pub LiesWithin : Span → ℕ → ℕ → ℕ → ℕ → Type 0
 LiesWithin span at width least most = Lies span at width × (least ≤ span.count) × (span.count ≤ most)

@@ -1,121 +1,129 @@
-ghost use Rattle.std.specs.Prelude.{◌≡◌, ℕ, ◌+◌, ◌<◌, ◌≤◌, true, false, length, Some, None, MatchOption};
+ghost use Rattle.std.specs.Prelude.{◌≡◌, ℕ, ◌+◌, ◌<◌, ◌≤◌, true, false, MatchOption};
 ghost use Rattle.image.specs.Keeping.{FirstFailure, SectionKeeps, Late, KeptBefore, RecordsKeep, BreaksFirst};
 ghost use Rattle.image.specs.Raw.{counts_before};
 ghost use Rattle.image.specs.Rules.{state_keeps, transition_keeps, record_keeps};
-ghost use Rattle.image.specs.Spans.{Fits, span_of};
-ghost use Rattle.image.specs.declared.sections.Section.TheVariants.{States, Transitions};
+ghost use Rattle.image.specs.Spans.{span_of};
+ghost use Rattle.image.specs.declared.sections.Section.TheVariants.{States};
 
-use crate::deciding::{action_keeps, state_keeps};
-use crate::reading::raw_state;
-use crate::rules::{count_of, interval_keeps, mode_keeps, rule_keeps, transition_keeps};
-use crate::sections::{Section, place_of, span_of};
-use table::Sections;
+use crate::image::Image;
+use crate::raw::RawState;
+use crate::sections::Section;
 
-// The first state that breaks a rule.
-fn broken_state(image: &[i32], s: Sections) -> Option<usize>
-    requires { Fits s (length image.now) }
-    ensures { FirstFailure (state_keeps image.now s) s.states.count result }
-{
-    let mut earlier = 0;
-    for k in 0..s.states.count {
-        if !state_keeps(image, s, k, earlier) {
-            return Some(k);
+impl Image<'_> {
+    // Where the transitions of state k end, by where they begin.
+    #[tactic(auto, using(crate::proofs::Counting::counts_more))]
+    fn transitions_end(&self, k: usize, first: usize) -> usize
+        requires inside { k < self.now.sections.states.count }
+        requires begin { first ≡ counts_before self.now.numbers.now self.now.sections k }
+        requires few { first ≤ 16384 }
+        ensures { result ≡ counts_before self.now.numbers.now self.now.sections (k + 1) }
+    {
+        first + self.record::<RawState>(k).count_of()
+    }
+
+    // The first state that breaks a rule.
+    #[tactic(auto, using(crate::proofs::Counting::counts_none, crate::proofs::Counting::state_end))]
+    fn broken_state(&self) -> Option<usize>
+        ensures { FirstFailure (state_keeps self.now.numbers.now self.now.sections)
+            self.now.sections.states.count result }
+    {
+        // A loop: each state is asked with the sum of the counts before it.
+        let mut earlier = 0;
+        for k in 0..self.sections.states.count {
+            if !self.state_keeps(k, earlier) {
+                return Some(k);
+            }
+            earlier = self.transitions_end(k, earlier);
         }
-        let here = raw_state(image, s, k);
-        earlier += count_of(here);
+        None
     }
-    None
-}
 
-// The first transition of state k that breaks a rule.
-fn broken_transition_of(
-    image: &[i32],
-    s: Sections,
-    k: usize,
-    first: usize,
-    end: usize,
-) -> Option<usize>
-    requires { (Fits s (length image.now)) × ((k < s.states.count) × ((first ≡ counts_before image.now s k) × ((end ≡ counts_before image.now s (k + 1)) × (end ≤ s.transitions.count)))) }
-    ensures { elim result [
-      | Some t ↦ (first ≤ t) × (t < end) × (transition_keeps image.now s t ≡ false) × ((u : ℕ) → first ≤ u → u < t → transition_keeps image.now s u ≡ true)
-      | None ↦ ((t : ℕ) → first ≤ t → t < end → transition_keeps image.now s t ≡ true)
-    ] }
-{
-    for t in first..end {
-        if !transition_keeps(image, s, k, t) {
-            return Some(t);
+    // The first transition of state k that breaks a rule.
+    fn broken_transition_of(&self, k: usize, first: usize, end: usize) -> Option<usize>
+        requires state { k < self.now.sections.states.count }
+        requires first { first ≡ counts_before self.now.numbers.now self.now.sections k }
+        requires end { end ≡ counts_before self.now.numbers.now self.now.sections (k + 1) }
+        requires inside { end ≤ self.now.sections.transitions.count }
+        ensures { MatchOption result
+            ((t : ℕ) → first ≤ t → t < end → transition_keeps self.now.numbers.now self.now.sections t ≡ true)
+            (λ t. (first ≤ t) × (t < end)
+            × (transition_keeps self.now.numbers.now self.now.sections t ≡ false)
+            × ((u : ℕ) → first ≤ u → u < t → transition_keeps self.now.numbers.now self.now.sections u ≡ true)) }
+    {
+        (first..end).find(|t| !self.transition_keeps(k, *t))
+    }
+
+    // The first transition that breaks a rule, where all states keep theirs.
+    #[tactic(auto, using(crate::proofs::Counting::counts_none, crate::proofs::Counting::state_end))]
+    fn broken_transition(&self) -> Option<usize>
+        requires { SectionKeeps self.now.numbers.now self.now.sections States }
+        ensures { FirstFailure (transition_keeps self.now.numbers.now self.now.sections)
+            self.now.sections.transitions.count result }
+    {
+        // A loop: the transitions of a state begin where those of the one before it end.
+        let mut first = 0;
+        for k in 0..self.sections.states.count {
+            let end = self.transitions_end(k, first);
+            if let Some(t) = self.broken_transition_of(k, first, end) {
+                return Some(t);
+            }
+            first = end;
         }
+        None
     }
-    None
-}
 
-// The first transition that breaks a rule, where all states keep theirs.
-fn broken_transition(image: &[i32], s: Sections) -> Option<usize>
-    requires { (Fits s (length image.now)) × (SectionKeeps image.now s States) }
-    ensures { FirstFailure (transition_keeps image.now s) s.transitions.count result }
-{
-    let mut first = 0;
-    for k in 0..s.states.count {
-        let here = raw_state(image, s, k);
-        let end = first + count_of(here);
-        if let Some(t) = broken_transition_of(image, s, k, first, end) {
-            return Some(t);
-        }
-        first = end;
-    }
-    None
-}
-
-// Does record k of one of the last four sections keep its rules?
-fn late_record_keeps(image: &[i32], s: Sections, section: Section, k: usize) -> bool
-    requires { (Fits s (length image.now)) × ((Late section) × (k < (span_of s section).count)) }
-    ensures { result ≡ record_keeps image.now s section k }
-{
-    match section {
-        Section::Intervals => interval_keeps(image, s, k),
-        Section::Modes => mode_keeps(image, s, k),
-        Section::Rules => rule_keeps(image, s, k),
-        Section::Actions => action_keeps(image, s, k),
-        _ => unreachable(),
-    }
-}
-
-// The first record of one of the last four sections that breaks a rule.
-fn broken_late_record(image: &[i32], s: Sections, section: Section) -> Option<usize>
-    requires { (Fits s (length image.now)) × (Late section) }
-    ensures { FirstFailure (record_keeps image.now s section) (span_of s section).count result }
-{
-    let span = span_of(s, section);
-    for k in 0..span.count {
-        if !late_record_keeps(image, s, section, k) {
-            return Some(k);
+    // Does record k of one of the last four sections keep its rules?
+    fn late_record_keeps(&self, section: Section, k: usize) -> bool
+        requires late { Late section }
+        requires inside { k < (span_of self.now.sections section).count }
+        ensures { result ≡ record_keeps self.now.numbers.now self.now.sections section k }
+    {
+        match section {
+            Section::Intervals => self.interval_keeps(k),
+            Section::Modes => self.mode_keeps(k),
+            Section::Rules => self.rule_keeps(k),
+            Section::Actions => self.action_keeps(k),
+            _ => unreachable(),
         }
     }
-    None
-}
 
-// The first record of a section that breaks a rule, where all before it keep theirs.
-fn broken_record(image: &[i32], s: Sections, section: Section) -> Option<usize>
-    requires { (Fits s (length image.now)) × (KeptBefore image.now s section) }
-    ensures { FirstFailure (record_keeps image.now s section) (span_of s section).count result }
-{
-    match section {
-        Section::States => broken_state(image, s),
-        Section::Transitions => broken_transition(image, s),
-        _ => broken_late_record(image, s, section),
+    // The first record of one of the last four sections that breaks a rule.
+    // One search for the four of them. Four searches, each with a closure of its own, were tried: none of the four
+    // proofs closed.
+    fn broken_late_record(&self, section: Section) -> Option<usize>
+        requires { Late section }
+        ensures { FirstFailure (record_keeps self.now.numbers.now self.now.sections section)
+            (span_of self.now.sections section).count result }
+    {
+        let span = section.span(&self.sections);
+        (0..span.count).find(|k| !self.late_record_keeps(section, *k))
     }
-}
 
-/// Where the first record of an image that breaks a rule starts.
-pub fn broken_place(image: &[i32], s: Sections) -> Option<usize>
-    requires { Fits s (length image.now) }
-    ensures { MatchOption result (RecordsKeep image.now s) (BreaksFirst image.now s) }
-{
-    for i in 0..6 {
-        let section = Section::of_order(i);
-        if let Some(k) = broken_record(image, s, section) {
-            return Some(place_of(s, section, k));
+    // The first record of a section that breaks a rule, where all before it keep theirs.
+    fn broken_record(&self, section: Section) -> Option<usize>
+        requires { KeptBefore self.now.numbers.now self.now.sections section }
+        ensures { FirstFailure (record_keeps self.now.numbers.now self.now.sections section)
+            (span_of self.now.sections section).count result }
+    {
+        match section {
+            Section::States => self.broken_state(),
+            Section::Transitions => self.broken_transition(),
+            _ => self.broken_late_record(section),
         }
     }
-    None
+
+    /// Where the first record that breaks a rule starts.
+    pub fn broken_place(&self) -> Option<usize>
+        ensures { MatchOption result
+            (RecordsKeep self.now.numbers.now self.now.sections)
+            (BreaksFirst self.now.numbers.now self.now.sections) }
+    {
+        // A loop: a section may be asked only once those before it are known to keep their rules.
+        for section in Section::ALL {
+            if let Some(k) = self.broken_record(section) {
+                return Some(section.place(&self.sections, k));
+            }
+        }
+        None
+    }
 }

@@ -4,6 +4,9 @@
 
 mod breaking;
 mod deciding;
+mod image;
+mod kinds;
+mod numbers;
 mod raw;
 mod reading;
 mod rules;
@@ -11,9 +14,9 @@ mod sections;
 mod spot;
 mod spotting;
 
-pub use breaking::broken_place;
-pub use raw::{Interval, RawAction, RawRule, RawState, RawTransition};
-pub use reading::{raw_action, raw_interval, raw_mode, raw_rule, raw_state, raw_transition};
-pub use sections::{Section, place_of, span_of};
+pub use image::Image;
+pub use kinds::{LexerAction, StateKind, TransitionKind};
+pub use raw::{Interval, RawAction, RawMode, RawRule, RawState, RawTransition, Record};
+pub use sections::Section;
 pub use spot::Spot;
 pub use spotting::spot_at;

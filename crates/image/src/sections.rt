@@ -4,7 +4,7 @@ ghost use Rattle.image.specs.Spans.{order_of, span_of, width_of, PlacedWithin};
 use table::{Sections, Span};
 
 /// A section of an image.
-#[derive(Clone, Copy)]
+#[derive(Clone, Copy, PartialEq, Eq, Debug)]
 pub enum Section {
     States,
     Transitions,
@@ -15,48 +15,59 @@ pub enum Section {
 }
 
 impl Section {
+    /// All sections, in order.
+    pub const ALL: [Section; 6] = [
+        Section::States,
+        Section::Transitions,
+        Section::Intervals,
+        Section::Modes,
+        Section::Rules,
+        Section::Actions,
+    ];
+
     /// The section of an order: 0 is the first.
     pub fn of_order(i: usize) -> Section
         requires { i < 6 }
         ensures { order_of result ≡ i }
     {
-        match i {
-            0 => Section::States,
-            1 => Section::Transitions,
-            2 => Section::Intervals,
-            3 => Section::Modes,
-            4 => Section::Rules,
-            _ => Section::Actions,
+        Section::ALL[i]
+    }
+
+    /// How many numbers each of its records has.
+    // The layout, in `table`, has the same widths among its forms, and the proofs say that they agree.
+    pub fn width(self) -> usize
+        ensures { result ≡ width_of self }
+    {
+        match self {
+            Section::States => 5,
+            Section::Transitions => 4,
+            Section::Intervals => 2,
+            Section::Modes => 1,
+            Section::Rules => 3,
+            Section::Actions => 2,
         }
     }
-}
 
-/// Where the records of a section are.
-pub fn span_of(s: Sections, section: Section) -> Span
-    ensures { result ≡ span_of s section }
-{
-    match section {
-        Section::States => s.states,
-        Section::Transitions => s.transitions,
-        Section::Intervals => s.intervals,
-        Section::Modes => s.modes,
-        Section::Rules => s.rules,
-        Section::Actions => s.actions,
+    /// Where its records are.
+    pub fn span(self, sections: &Sections) -> Span
+        ensures { result ≡ span_of sections.now self }
+    {
+        match self {
+            Section::States => sections.states,
+            Section::Transitions => sections.transitions,
+            Section::Intervals => sections.intervals,
+            Section::Modes => sections.modes,
+            Section::Rules => sections.rules,
+            Section::Actions => sections.actions,
+        }
     }
-}
 
-/// Where record k of a section starts.
-pub fn place_of(s: Sections, section: Section, k: usize) -> usize
-    requires placed { PlacedWithin s }
-    requires inside { k < (span_of s section).count }
-    ensures { result ≡ (span_of s section).start + width_of section * k }
-{
-    match section {
-        Section::States => s.states.start + 5 * k,
-        Section::Transitions => s.transitions.start + 4 * k,
-        Section::Intervals => s.intervals.start + 2 * k,
-        Section::Modes => s.modes.start + k,
-        Section::Rules => s.rules.start + 3 * k,
-        Section::Actions => s.actions.start + 2 * k,
+    /// Where its record k starts.
+    pub fn place(self, sections: &Sections, k: usize) -> usize
+        requires placed { PlacedWithin sections.now }
+        requires inside { k < (span_of sections.now self).count }
+        ensures { result ≡ (span_of sections.now self).start + width_of self * k }
+    {
+        self.span(sections).start + self.width() * k
     }
 }

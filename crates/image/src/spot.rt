@@ -5,6 +5,7 @@ use crate::sections::Section;
 use std::fmt;
 
 /// A spot in an image: the count of a section, one of its records, or past the last section.
+// `Past` is a spot like the others, with words of its own, and no failure: not an `Option`.
 #[derive(Clone, Copy)]
 pub enum Spot {
     Count(Section),
@@ -28,6 +29,7 @@ impl Section {
     }
 
     /// What one of its records is called.
+    // Beside `name`, and not made of it: both are words that the library promises, and need no text built for them.
     pub fn record_name(self) -> &'static str
         ensures { result.now ≡ singular_of self }
     {

@@ -7,6 +7,7 @@ use crate::fault::Fault;
 use crate::source::{MAX_LENGTH, MAX_SYMBOL, Source};
 
 /// A text that is an array of symbols. The places are the indices.
+// An index into the whole, and not the rest of it: a source can go back.
 #[derive(Drop)]
 pub struct ArraySource<'a> {
     numbers: &'a [u32],

@@ -12,10 +12,8 @@ pub trait Source {
     /// The whole text, and how many of its symbols are read.
     ghost text: { Self → Text };
 
-    /// What holds of the text of every source.
-    ghost good: { (s : Self) → Good (text s) };
-
     /// The next symbol, or -1 at the end.
+    // Not an `Option`: -1 is the mark that ANTLR's streams give, and that the transitions of a table match.
     fn look(&self) -> i32
         ensures { result ≡ coming (text self.now) };
 
@@ -31,4 +29,7 @@ pub trait Source {
     /// Goes to the place of a symbol or of the end; at any other it answers no and changes nothing.
     fn seek(&mut self, place: usize) -> bool
         ensures { Sought (text self.old) place result (text self.new) };
+
+    // What holds of the text of every source.
+    ghost good: { (s : Self) → Good (text s) };
 }

@@ -13,6 +13,7 @@ mod sequence;
 use sequence::{read_at, size_at, tail_at};
 
 /// A text in UTF-8. The places are the offsets of bytes.
+// An index into the whole, and not the rest of it: a source can go back.
 #[derive(Drop)]
 pub struct Utf8Source<'a> {
     bytes: &'a [u8],
@@ -22,7 +23,8 @@ pub struct Utf8Source<'a> {
 }
 
 // Refuses more than 1,048,576 bytes, and then the first place where a well-formed sequence should begin
-// and none does. By hand, since a step is as long as its sequence: no iterator steps so.
+// and none does. A loop, since a step is as long as its sequence. Not the library's `from_utf8`: the promise is about
+// the rows of the table in docs/TEXT.md, and that both say the same is what the clause `agrees` proves.
 #[tactic(auto, using(crate::proofs::Stops::stops))]
 fn check(bytes: &[u8]) -> Result<(), Fault>
     ensures { MatchResult result (λ _. Readable bytes.now) (λ f. Refused bytes.now (told f)) }
@@ -32,10 +34,7 @@ fn check(bytes: &[u8]) -> Result<(), Fault>
     }
     let mut at = 0;
     while at < bytes.len() {
-        let Some(size) = size_at(bytes, at) else {
-            return Err(Fault::BadSymbol(at));
-        };
-        at += size;
+        at += size_at(bytes, at).ok_or(Fault::BadSymbol(at))?;
     }
     Ok(())
 }
@@ -51,6 +50,8 @@ impl<'a> Utf8Source<'a> {
 
     /// Takes up a text, from its start. Refuses more than 1,048,576 bytes, and then the first place
     /// where a well-formed sequence should begin and none does; the source is then as it was.
+    // Like an array's, over another rule of what a text is: one source for both would be no plainer, as it would have
+    // to be told the rule.
     pub fn open(&mut self, bytes: &'a [u8]) -> Result<(), Fault>
         ensures readable { OnOk result (Readable bytes.now) }
         ensures text { OnOk result (of_bytes self.new.bytes.now self.new.at ≡ text_of bytes.now) }

@@ -47,6 +47,7 @@ impl<T: Automaton> Edges<'_, T> {
     {
         let first = self.automaton.first(usize::from(x));
         let end = self.automaton.end(usize::from(x));
+        // A loop: each turn changes the search.
         for t in first..end {
             self.follow(search, t);
         }

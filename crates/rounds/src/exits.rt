@@ -7,7 +7,8 @@ use crate::automaton::Automaton;
 use crate::passing::Passing;
 use crate::round::MAX_STATES;
 
-// An automaton and marks of states that exit, while they are looked for.
+// An automaton and marks of states that exit, while they are looked for. It knows of the automaton what `Edges` knows;
+// a struct between the two would be no plainer, since each asks its own list beside it.
 #[derive(Drop)]
 struct Marking<'a, T: Automaton> {
     automaton: &'a T,
@@ -43,7 +44,7 @@ impl<T: Automaton> Marking<'_, T> {
         }
         let first = self.automaton.first(s);
         let end = self.automaton.end(s);
-        // As a chain, with `any`, it was tried; the proof did not close.
+        // A chain with `any` was tried: the search for its proof gave up at one of its limits.
         for t in first..end {
             if self.opens(t) {
                 return true;
@@ -60,6 +61,7 @@ impl<T: Automaton> Marking<'_, T> {
         ensures all { result ≡ false → Closed (T.graph self.new.automaton.now) self.new.marks }
     {
         let mut changed = false;
+        // A loop: what a turn marks, the turns after it read.
         for s in (0..self.automaton.states()).rev() {
             if !self.marks[s] && self.is_due(s) {
                 self.marks[s] = true;

@@ -1,4 +1,4 @@
-use checked_table::{Counts, Table, check};
+use checked_table::{Table, check};
 use decimals::read_numbers;
 use image::{Section, Spot, spot_at};
 use input::Fault;
@@ -16,17 +16,8 @@ fn spot_of(numbers: &[i32], fault: Fault) -> Spot {
 fn check_numbers(rt: &HostRuntime, name: &str, numbers: &[i32]) -> anyhow::Result<()> {
     match check(numbers) {
         Ok(()) => {
-            let Counts {
-                states,
-                transitions,
-                intervals,
-                modes,
-                rules,
-                actions,
-            } = Table::open(numbers).counts();
-            println!(rt;
-                "{name}: passes: {states} states, {transitions} transitions, {intervals} intervals, {modes} modes, {rules} rules, {actions} actions"
-            )?;
+            let counts = Table::open(numbers).counts();
+            println!(rt; "{name}: passes: {counts}")?;
         }
         Err(fault) => match spot_of(numbers, fault) {
             Spot::Past => println!(rt; "{name}: {fault}")?,

@@ -11,6 +11,7 @@ scoreline batch FILE      carries out each line of FILE as a command
 scoreline help            prints this";
 
 /// Carries out one command, given by its words. A batch is not one.
+// The tasks of `scoreline` are matched as there: one function for both would have to be told its usage and its errors.
 pub fn carry_out_one(rt: &HostRuntime, words: &[String]) -> anyhow::Result<()> {
     let [word, others @ ..] = words else {
         bail!("no command: see scoreline help");

@@ -1,4 +1,5 @@
-//! The score line's program: audits recordings, measures how fast a text is walked, and carries out batches of commands.
+//! The score line's program: audits recordings, checks tables, measures how fast a text is walked, and carries out
+//! batches of commands.
 #![tactic(auto)]
 
 mod batches;

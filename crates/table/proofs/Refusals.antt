@@ -7,7 +7,7 @@ use Rattle.table.specs.Spans.{forms}
 
 module _ (image : List ℤ) where
   holds_one : (at : ℕ) (f : Form) (n m : ℕ) → Holds image at f n → Holds image at f m → n ≡ m
-  holds_one at f n m h k = let e : pos n ≡ pos m = sym h.count ∙ k.count in cc
+  holds_one at f n m h k = cc
 
   holds_unheld : (at : ℕ) (f : Form) (n : ℕ) (t : Notice) → Holds image at f n → Unheld image at f t → ⊥
   holds_unheld at f n t h (inl e) = go e.cut

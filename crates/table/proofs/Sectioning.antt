@@ -1,11 +1,12 @@
--- The same section at an index that is written otherwise. Assumes nothing.
-use Rattle.std.proofs.Common.{◌≡◌, ℕ, List, ℤ, subst}
+-- One section after another. Assumes nothing.
+use Rattle.std.proofs.Common.{ℕ, List, ◌∷◌, ℤ, subst, inr}
 use Rattle.input.specs.declared.fault.Notice.{Notice}
-use Rattle.table.specs.Layout.{Holds, Unheld}
+use Rattle.table.specs.Layout.{Broken}
+use Rattle.table.specs.Spans.{Reads}
 use Rattle.table.specs.declared.sections.Form.{Form}
+use Rattle.table.specs.declared.sections.Span.{Span}
 
-pub holds_at : {image : List ℤ} {form : Form} {n : ℕ} (from to : ℕ) → from ≡ to → Holds image from form n → Holds image to form n
-holds_at {image} {form} {n} from to e h = subst (λ (p : ℕ). Holds image p form n) e h
-
-pub unheld_at : {image : List ℤ} {form : Form} {told : Notice} (from to : ℕ) → from ≡ to → Unheld image from form told → Unheld image to form told
-unheld_at {image} {form} {told} from to e u = subst (λ (p : ℕ). Unheld image p form told) e u
+-- What breaks after a section breaks the layout from that section on.
+pub broken_after : {image : List ℤ} {at : ℕ} {form : Form} {told : Notice} (forms : List Form) (span : Span)
+    → Reads image at form span → Broken forms image span.end told → Broken (form ∷ forms) image at told
+broken_after {image} {told = told} forms span r b = inr (span.count, r.holds, subst (λ (p : ℕ). Broken forms image p told) r.end b)

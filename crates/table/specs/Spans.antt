@@ -1,5 +1,6 @@
 -- The six sections and where their records are.
-use Rattle.std.specs.Prelude.{◌≡◌, ℕ, ◌+◌, ◌*◌, List, [], ◌∷◌}
+use Rattle.std.specs.Prelude.{◌≡◌, ℕ, ◌+◌, ◌*◌, List, [], ◌∷◌, ℤ}
+use Rattle.table.specs.Layout.{Holds, past}
 use Rattle.table.specs.declared.sections.Form.{Form}
 use Rattle.table.specs.declared.sections.Sections.{Sections}
 use Rattle.table.specs.declared.sections.Span.{Span}
@@ -27,3 +28,9 @@ Placed s =
     × Lies s.modes s.intervals.end 1
     × Lies s.rules s.modes.end 3
     × Lies s.actions s.rules.end 2
+
+-- the section whose count stands at an index holds, and the span tells where its records are
+pub record Reads (image : List ℤ) (at : ℕ) (form : Form) (span : Span) : Type 0 where
+  pub start : span.start ≡ at + 1
+  pub end : span.end ≡ past at form span.count
+  pub holds : Holds image at form span.count

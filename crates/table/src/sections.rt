@@ -1,7 +1,7 @@
-ghost use Rattle.std.specs.Prelude.{◌≡◌, ℕ, ◌+◌, ◌*◌, ◌<◌, ◌≤◌, length, pos, Some, None, Ok, Err, ◌≢◌};
+ghost use Rattle.std.specs.Prelude.{◌≡◌, ℕ, ◌≤◌, pos, ◌≢◌, MatchOption, MatchResult, IfOk};
 ghost use Rattle.input.specs.Faults.{told};
-ghost use Rattle.table.specs.Layout.{Holds, Unheld, Laid, Broken, number, past};
-ghost use Rattle.table.specs.Spans.{forms, counts_of, Placed};
+ghost use Rattle.table.specs.Layout.{Unheld, Laid, Broken};
+ghost use Rattle.table.specs.Spans.{forms, counts_of, Placed, Reads};
 
 use input::Fault;
 
@@ -69,37 +69,22 @@ const ACTIONS: Form = Form {
     most: 256,
 };
 
-// The number at an index, where it is not below 0.
-fn natural(image: &[i32], at: usize) -> Option<usize>
-    requires { at < length image.now }
-    ensures { elim result [
-      | Some n ↦ number image.now at ≡ pos n
-      | None ↦ ((n : ℕ) → number image.now at ≢ pos n)
-    ] }
+// The number, where it is not below 0.
+fn natural(number: i32) -> Option<usize>
+    ensures { MatchOption result ((n : ℕ) → number ≢ pos n) (λ n. number ≡ pos n) }
 {
-    let number = image[at];
-    if number >= 0 {
-        Some(number as usize)
-    } else {
-        None
-    }
+    usize::try_from(number).ok()
 }
 
 // The section whose count stands at an index.
 fn section(image: &[i32], at: usize, form: Form) -> Result<Span, Fault>
-    requires { (form.width ≤ 5) × (form.most ≤ 16384) }
-    ensures { elim result [
-      | Ok s ↦ (s.start ≡ at + 1) × (s.end ≡ past at form s.count) × Holds image.now at form s.count
-      | Err f ↦ Unheld image.now at form (told f)
-    ] }
+    requires narrow { form.width ≤ 5 }
+    requires few { form.most ≤ 16384 }
+    ensures read { MatchResult result (Reads image.now at form) (λ f. Unheld image.now at form (told f)) }
 {
-    if at >= image.len() {
-        return Err(Fault::ImageEndsEarly(image.len()));
-    }
-    let Some(count) = natural(image, at) else {
-        return Err(Fault::CountOutOfRange(at));
-    };
-    if count < form.least || count > form.most {
+    let number = image.get(at).ok_or(Fault::ImageEndsEarly(image.len()))?;
+    let count = natural(*number).ok_or(Fault::CountOutOfRange(at))?;
+    if !(form.least..=form.most).contains(&count) {
         return Err(Fault::CountOutOfRange(at));
     }
     let start = at + 1;
@@ -114,10 +99,10 @@ impl Sections {
     /// The sections of an image, in order. Refuses an image that ends early, a count outside its
     /// limits, and numbers left over, whichever comes first.
     pub fn of(image: &[i32]) -> Result<Sections, Fault>
-        ensures { elim result [
-          | Ok s ↦ Laid forms image.now 0 (counts_of s) × Placed s
-          | Err f ↦ Broken forms image.now 0 (told f)
-        ] }
+        ensures laid { MatchResult result
+            (λ s. Laid forms image.now 0 (counts_of s))
+            (λ f. Broken forms image.now 0 (told f)) }
+        ensures placed { IfOk result Placed }
     {
         let states = section(image, 0, STATES)?;
         let transitions = section(image, states.end, TRANSITIONS)?;

@@ -32,7 +32,8 @@ impl<'a> Lines<'a> {
         ] }
         ensures bytes { elim result [
           | None ↦ (bytes_left self.old ≡ 0) × (bytes_left self.new ≡ 0)
-          | Some line ↦ (bytes_left self.new < bytes_left self.old) × (length line.now + bytes_left self.new ≤ bytes_left self.old)
+          | Some line ↦ (bytes_left self.new < bytes_left self.old)
+              × (length line.now + bytes_left self.new ≤ bytes_left self.old)
         ] }
         ensures recording { self.new.recording.now ≡ self.old.recording.now }
     {

@@ -81,6 +81,7 @@ pub fn audit_recording(recording: &[u8]) -> Totals
     ensures { result ≡ total_of recording.now }
 {
     let mut audit = Audit::of(recording);
+    // Not a `fold` of reports: that the sums fit is known of an audit, and not of totals alone.
     while let Some(_report) = audit.next_report() {}
     audit.totals()
 }

@@ -5,6 +5,7 @@ ghost use Rattle.std.specs.Prelude.{◌≡◌};
 
 use crate::checked::Table;
 use crate::records::Records;
+use image::Image;
 use table::Sections;
 
 impl<'a> Table<'a> {
@@ -16,7 +17,7 @@ impl<'a> Table<'a> {
         let Ok(sections) = Sections::of(image) else {
             unreachable()
         };
-        let records = Records::over(image, sections);
+        let records = Records::over(Image::over(image, sections));
         Table { records }
     }
 }

@@ -1,40 +1,56 @@
-ghost use Rattle.std.specs.Prelude.{◌≡◌, ℕ, ◌+◌, ◌<◌, ◌≤◌, length};
-ghost use Rattle.checked_table.specs.Atn.{state_at, transition_at, interval_at, mode_at, rule_at, action_at, contains, is_symbol, matches, SetFits};
-ghost use Rattle.image.specs.Numbers.{between};
+ghost use Rattle.std.specs.Prelude.{◌≡◌, ◌+◌, ◌<◌, ◌≤◌, length};
+ghost use Rattle.checked_table.specs.Atn.{state_at, transition_at, interval_at, mode_at, rule_at, action_at};
+ghost use Rattle.checked_table.specs.Atn.{contains, interval_has, is_symbol, matches, SetFits};
 ghost use Rattle.checked_table.specs.Counts.{Counted};
 ghost use Rattle.checked_table.specs.Means.{atn_in};
 ghost use Rattle.image.specs.Keeping.{RecordsKeep};
-ghost use Rattle.image.specs.Spans.{Fits, sections_of};
+ghost use Rattle.image.specs.Numbers.{natural};
+ghost use Rattle.image.specs.Spans.{sections_of};
 
 use crate::counts::Counts;
-use crate::decoding::{action_of, rule_of, small, state_of, transition_of};
-use crate::parts::{LexerAction, Rule, State, Transition, TransitionKind};
+use crate::parts::{Rule, State, Transition};
 use crate::records::Records;
-use image::{Interval, raw_action, raw_interval, raw_mode, raw_rule, raw_state, raw_transition};
-use table::Sections;
+use image::{
+    Image, Interval, LexerAction, RawAction, RawMode, RawRule, RawState, RawTransition,
+    TransitionKind,
+};
+
+// A number of a record as 16 bits; it is 0 where it is below 0, as in the meaning of a table.
+fn small(x: i32) -> u16
+    requires { natural x < 65536 }
+    ensures { result ≡ natural x }
+{
+    u16::try_from(x).unwrap_or(0)
+}
 
 impl<'a> Records<'a> {
     /// The records of an image that were found to keep their rules.
-    pub fn over(image: &'a [i32], sections: Sections) -> Records<'a>
-        requires { (sections ≡ sections_of image.now) × ((Fits sections (length image.now)) × (RecordsKeep image.now sections)) }
-        ensures { (result.image.now ≡ image.now) × (result.sections ≡ sections) }
+    pub(crate) fn over(image: Image<'a>) -> Records<'a>
+        requires laid { image.sections ≡ sections_of image.numbers.now }
+        requires keep { RecordsKeep image.numbers.now image.sections }
+        ensures numbers { result.image.numbers.now ≡ image.entry.numbers.now }
+        ensures sections { result.image.sections ≡ image.entry.sections }
     {
-        Records { image, sections }
+        Records { image }
     }
 }
 
+// Numbers of records are widened by `as`, which loses nothing. By `usize::from` it was tried: the proofs that read the
+// record of that number did not close.
 impl Records<'_> {
     /// How many records of each kind there are.
     pub fn counts(&self) -> Counts
         ensures { Counted (atn_in self.now) result }
     {
+        // The limits of the counts are proved, so no cast loses anything.
+        let sections = self.image.sections();
         Counts {
-            states: self.sections.states.count as u16,
-            transitions: self.sections.transitions.count as u16,
-            intervals: self.sections.intervals.count as u16,
-            modes: self.sections.modes.count as u16,
-            rules: self.sections.rules.count as u16,
-            actions: self.sections.actions.count as u16,
+            states: sections.states.count as u16,
+            transitions: sections.transitions.count as u16,
+            intervals: sections.intervals.count as u16,
+            modes: sections.modes.count as u16,
+            rules: sections.rules.count as u16,
+            actions: sections.actions.count as u16,
         }
     }
 
@@ -43,8 +59,17 @@ impl Records<'_> {
         requires { s < length (atn_in self.now).states }
         ensures { result ≡ state_at (atn_in self.now) s }
     {
-        let r = raw_state(self.image, self.sections, s as usize);
-        state_of(r)
+        let r: RawState = self.image.record(s as usize);
+        let Some(kind) = self.image.state_kind(r) else {
+            unreachable()
+        };
+        State {
+            kind,
+            rule: small(r.rule),
+            non_greedy: r.flag == 1,
+            first: small(r.first),
+            count: small(r.count),
+        }
     }
 
     /// Transition t.
@@ -53,8 +78,14 @@ impl Records<'_> {
         ensures is { result ≡ transition_at (atn_in self.now) t }
         ensures fits { SetFits (atn_in self.now) result.kind }
     {
-        let r = raw_transition(self.image, self.sections, t as usize);
-        transition_of(self.sections, r)
+        let r: RawTransition = self.image.record(t as usize);
+        let Some(kind) = self.image.transition_kind(r) else {
+            unreachable()
+        };
+        Transition {
+            kind,
+            target: small(r.target),
+        }
     }
 
     /// Interval i.
@@ -62,7 +93,7 @@ impl Records<'_> {
         requires { i < length (atn_in self.now).intervals }
         ensures { result ≡ interval_at (atn_in self.now) i }
     {
-        raw_interval(self.image, self.sections, i as usize)
+        self.image.record(i as usize)
     }
 
     /// The start of mode m.
@@ -70,8 +101,8 @@ impl Records<'_> {
         requires { m < length (atn_in self.now).modes }
         ensures { result ≡ mode_at (atn_in self.now) m }
     {
-        let x = raw_mode(self.image, self.sections, m as usize);
-        small(x)
+        let raw: RawMode = self.image.record(m as usize);
+        small(raw.start)
     }
 
     /// Rule r.
@@ -79,8 +110,12 @@ impl Records<'_> {
         requires { r < length (atn_in self.now).rules }
         ensures { result ≡ rule_at (atn_in self.now) r }
     {
-        let raw = raw_rule(self.image, self.sections, r as usize);
-        rule_of(raw)
+        let raw: RawRule = self.image.record(r as usize);
+        Rule {
+            start: small(raw.start),
+            stop: small(raw.stop),
+            token_type: small(raw.token_type),
+        }
     }
 
     /// Action a.
@@ -88,8 +123,20 @@ impl Records<'_> {
         requires { a < length (atn_in self.now).actions }
         ensures { result ≡ action_at (atn_in self.now) a }
     {
-        let raw = raw_action(self.image, self.sections, a as usize);
-        action_of(raw)
+        let raw: RawAction = self.image.record(a as usize);
+        let Some(action) = self.image.lexer_action(raw) else {
+            unreachable()
+        };
+        action
+    }
+
+    // Does the symbol lie in interval i?
+    fn interval_has(&self, i: u16, symbol: i32) -> bool
+        requires { i < length (atn_in self.now).intervals }
+        ensures { result ≡ interval_has (atn_in self.now) i symbol }
+    {
+        let Interval { low, high } = self.interval(i);
+        (low..=high).contains(&symbol)
     }
 
     /// Does the symbol lie in one of the `count` intervals from `first` on?
@@ -97,22 +144,17 @@ impl Records<'_> {
         requires { first + count ≤ length (atn_in self.now).intervals }
         ensures { result ≡ contains (atn_in self.now) first count symbol }
     {
-        let end = first + count;
-        for i in first..end {
-            if is_between(self.interval(i), symbol) {
-                return true;
-            }
-        }
-        false
+        (first..first + count).any(|i| self.interval_has(i, symbol))
     }
 
-    /// Does a transition of the kind match the symbol, or the end of the text, −1?
+    /// Does a transition of the kind match the symbol, or the end of the text, −1? The intervals of its set are there,
+    /// as they are for every transition of the table.
     pub fn matches(&self, kind: TransitionKind, symbol: i32) -> bool
         requires { SetFits (atn_in self.now) kind }
         ensures { result ≡ matches (atn_in self.now) kind symbol }
     {
         match kind {
-            TransitionKind::Range { low, high } => low <= symbol && symbol <= high,
+            TransitionKind::Range { low, high } => (low..=high).contains(&symbol),
             TransitionKind::Atom { label } => symbol == label,
             TransitionKind::Set { first, count } => self.contains(first, count, symbol),
             TransitionKind::NotSet { first, count } if is_symbol(symbol) => {
@@ -127,11 +169,5 @@ impl Records<'_> {
 fn is_symbol(x: i32) -> bool
     ensures { result ≡ is_symbol x }
 {
-    x >= 0 && x <= 1114111
-}
-
-fn is_between(interval: Interval, x: i32) -> bool
-    ensures { result ≡ between interval.low interval.high x }
-{
-    interval.low <= x && x <= interval.high
+    (0..=1114111).contains(&x)
 }

@@ -42,6 +42,7 @@ impl<'a> Words<'a> {
         ensures words { left self.new ≡ left self.old }
         ensures ink { 0 < length self.new.rest.now → is_ink (slice_index self.new.rest.now 0) ≡ true }
     {
+        // A loop: what a byte is depends on whether a comment goes on, and a line may end with it.
         let mut comment = false;
         while let Some((&byte, rest)) = self.rest.split_first() {
             if !comment && is_ink(byte) {

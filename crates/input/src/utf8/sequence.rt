@@ -2,6 +2,8 @@ ghost use Rattle.std.specs.Prelude.{◌≡◌, ◌+◌, ◌%◌, ◌<◌, ◌≤
 ghost use Rattle.input.specs.Rows.{Follows, Tail};
 ghost use Rattle.input.specs.Utf8.{Readable, Stands, read_at, size_at};
 
+// A slice and a place in it, not a source: all but `read_at` are asked while the bytes are checked, before there is one.
+
 // Does the byte go on with a sequence?
 fn is_tail(b: u8) -> bool
     ensures { IsTrue result ↔ Tail b }

@@ -1,23 +1,26 @@
-use Rattle.std.proofs.Common.{sym, ap, ◌∙◌, subst}
-use Rattle.table.specs.declared.sections.Sections.{Sections}
+use Rattle.std.proofs.Common.{sym, ◌∙◌, subst}
 use Rattle.image.specs.Keeping.{RecordsKeep}
-use Rattle.checked_table.specs.Decoding.{meaning}
 use Rattle.checked_table.specs.Steps.{NoRound}
 use Rattle.checked_table.proofs.Holding.{atn-meaning}
-use Rattle.image.proofs.Sectioning.{sections_fit, sections_are}
+use Rattle.image.proofs.Sectioning.{sections_fit}
+use Rattle.checked_table.proofs.Opening.{laid_in, told_of}
 use Rattle.checked_table.proofs.checked.Table.open.Goals as goal
+
+pub over-requires : goal.over-requires
+over-requires c = let l = c.in-Ok.ensures in sections_fit c.args.image.now c.in-Ok.sections l.laid l.placed
 
 pub over-records-requires : goal.over-records-requires
 over-records-requires c =
-    let image = c.args.image.now in
     let l = c.in-Ok.ensures in
-    let same = sections_are image c.in-Ok.sections l.0 l.1 in
-    (same, (sections_fit image c.in-Ok.sections l.0 l.1, subst (λ (x : Sections). RecordsKeep image x) (sym same) c.requires.1))
+    record {
+      laid = laid_in c.args.image.now _ l.laid l.placed c.over.result c.over.ensures.numbers c.over.ensures.sections;
+      keep = told_of c.args.image.now _ l.laid l.placed c.over.result c.over.ensures.numbers c.over.ensures.sections RecordsKeep c.requires.1;
+    }
 
 pub invariant_of-result : goal.invariant_of-result
 invariant_of-result c =
-    let means = atn-meaning c.over-records.result ∙ ap meaning c.over-records.ensures.0 in
+    let means = atn-meaning c.over-records.result _ (c.over-records.ensures.numbers ∙ c.over.ensures.numbers) in
     record { ends = subst NoRound (sym means) c.requires.2 }
 
 pub returns : goal.returns
-returns c = atn-meaning c.over-records.result ∙ ap meaning c.over-records.ensures.0
+returns c = atn-meaning c.over-records.result _ (c.over-records.ensures.numbers ∙ c.over.ensures.numbers)

@@ -1,21 +1,18 @@
-use Rattle.std.proofs.Common.{◌<◌, sym, ap, ◌∙◌, subst, arith}
-use Rattle.image.specs.declared.raw.RawRule.{RawRule}
-use Rattle.image.specs.Numbers.{natural}
-use Rattle.checked_table.specs.Decoding.{rule_of}
-use Rattle.checked_table.proofs.Holding.{fits_of, rule_numbers, rules_are, rule_is}
+use Rattle.std.proofs.Common.{arith, rules}
+use Rattle.checked_table.proofs.Holding.{rules_are, rule_kept}
 use Rattle.checked_table.proofs.records.Records.rule.Goals as goal
 
-pub raw_rule-raw-requires : goal.raw_rule-raw-requires
-raw_rule-raw-requires c = let r = c.args.self.now in (fits_of r, omega (arith, rules_are r, c.requires))
+pub record-raw-requires : goal.record-raw-requires
+record-raw-requires c = omega (arith, rules_are c.args.self.now, c.requires)
 
-pub rule_of-requires : goal.rule_of-requires
-rule_of-requires c =
-    let r = c.args.self.now in
-    let numbers = rule_numbers r c.args.r (omega (arith, rules_are r, c.requires)) in
-    subst (λ (x : RawRule). (natural x.start < 65536) × ((natural x.stop < 65536) × (natural x.token_type < 65536))) (sym c.raw_rule-raw.ensures)
-    (omega (arith, numbers, r.states), (omega (arith, numbers, r.states), numbers.2))
+pub small-requires : goal.small-requires
+small-requires c = let small = (rule_kept c.args.self.now c.args.r c.record-raw.result c.requires c.record-raw.ensures).small.0 in search rules
+
+pub small-requires-2 : goal.small-requires-2
+small-requires-2 c = let small = (rule_kept c.args.self.now c.args.r c.record-raw.result c.requires c.record-raw.ensures).small.1 in search rules
+
+pub small-requires-3 : goal.small-requires-3
+small-requires-3 c = let small = (rule_kept c.args.self.now c.args.r c.record-raw.result c.requires c.record-raw.ensures).small.2 in search rules
 
 pub returns : goal.returns
-returns c =
-    let r = c.args.self.now in
-    c.rule_of.ensures ∙ (ap rule_of c.raw_rule-raw.ensures ∙ sym (rule_is r c.args.r (omega (arith, rules_are r, c.requires))))
+returns c = rw (rule_kept c.args.self.now c.args.r c.record-raw.result c.requires c.record-raw.ensures).is (search rules)

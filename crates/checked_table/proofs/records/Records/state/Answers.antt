@@ -1,20 +1,19 @@
-use Rattle.std.proofs.Common.{◌<◌, sym, ap, ◌∙◌, subst, arith}
-use Rattle.image.specs.declared.raw.RawState.{RawState}
-use Rattle.image.specs.Numbers.{natural}
-use Rattle.checked_table.specs.Decoding.{state_of}
-use Rattle.checked_table.proofs.Holding.{fits_of, state_small, states_are, state_is}
+use Rattle.std.proofs.Common.{◌∙◌, arith, rules}
+use Rattle.std.proofs.lemmas.Bool.{false≢true}
+use Rattle.checked_table.proofs.Holding.{states_are, state_kept}
 use Rattle.checked_table.proofs.records.Records.state.Goals as goal
 
-pub raw_state-r-requires : goal.raw_state-r-requires
-raw_state-r-requires c = let r = c.args.self.now in (fits_of r, omega (arith, states_are r, c.requires))
+pub record-r-requires : goal.record-r-requires
+record-r-requires c = omega (arith, states_are c.args.self.now, c.requires)
 
-pub state_of-requires : goal.state_of-requires
-state_of-requires c =
-    let r = c.args.self.now in
-    subst (λ (x : RawState). (natural x.rule < 65536) × ((natural x.first < 65536) × (natural x.count < 65536))) (sym c.raw_state-r.ensures)
-    (state_small r c.args.s (omega (arith, states_are r, c.requires)))
+pub unreachable-requires : goal.unreachable-requires
+unreachable-requires c = false≢true (c.in_default.ensures.keeps ∙ (state_kept c.args.self.now c.args.s c.record-r.result c.requires c.record-r.ensures).keeps)
+
+pub small-requires-2 : goal.small-requires-2
+small-requires-2 c = let small = (state_kept c.args.self.now c.args.s c.record-r.result c.requires c.record-r.ensures).small.1 in search rules
+
+pub small-requires-3 : goal.small-requires-3
+small-requires-3 c = let small = (state_kept c.args.self.now c.args.s c.record-r.result c.requires c.record-r.ensures).small.2 in search rules
 
 pub returns : goal.returns
-returns c =
-    let r = c.args.self.now in
-    c.state_of.ensures ∙ (ap state_of c.raw_state-r.ensures ∙ sym (state_is r c.args.s (omega (arith, states_are r, c.requires))))
+returns c = rw (state_kept c.args.self.now c.args.s c.record-r.result c.requires c.record-r.ensures).is (search rules)

@@ -1,134 +1,28 @@
-use Rattle.std.proofs.Common.{ℕ, ap, inl, inr, arith}
+use Rattle.std.proofs.Common.{drop, refl, inl}
 use Rattle.std.proofs.lemmas.Result.{err_from_is_err_and}
-use Rattle.input.specs.Faults.{notice}
-use Rattle.input.specs.declared.fault.Part.TheVariants.{Table}
-use Rattle.table.proofs.Sectioning.{holds_at, unheld_at}
+use Rattle.table.specs.Spans.{forms}
+use Rattle.table.proofs.Sectioning.{broken_after}
 use Rattle.table.proofs.sections.Sections.of.Goals as goal
 
-pub returns-in_err-intervals : goal.returns-in_err-intervals
-returns-in_err-intervals c =
+pub returns-in_err-intervals-clause-laid : goal.returns-in_err-intervals-clause-laid
+returns-in_err-intervals-clause-laid c =
     let p = err_from_is_err_and c.from_residual-in_err-intervals.result c.from_residual-in_err-intervals.ensures.1 in
-    let states = c.in_ok-states.ensures in
-    let transitions = c.in_ok-transitions.ensures in
-    rw (p.1, p.2)
-    (inr (
-      _,
-      states.2,
-      (inr (
-        _,
-        holds_at _ _ (omega (arith, states.1)) transitions.2,
-        inl (unheld_at _ _ (omega (arith, states.1, transitions.1)) c.in_err-intervals.ensures),
-      )),
-    ))
+    rw (p.1, p.2) (broken_after (drop 1 forms) _ c.in_ok-states.ensures.read (broken_after (drop 2 forms) _ c.in_ok-transitions.ensures.read (inl c.in_err-intervals.ensures.read)))
 
-pub returns-in_err-modes : goal.returns-in_err-modes
-returns-in_err-modes c =
+pub returns-in_err-modes-clause-laid : goal.returns-in_err-modes-clause-laid
+returns-in_err-modes-clause-laid c =
     let p = err_from_is_err_and c.from_residual-in_err-modes.result c.from_residual-in_err-modes.ensures.1 in
-    let states = c.in_ok-states.ensures in
-    let transitions = c.in_ok-transitions.ensures in
-    let intervals = c.in_ok-intervals.ensures in
-    rw (p.1, p.2)
-    (inr (
-      _,
-      states.2,
-      (inr (
-        _,
-        holds_at _ _ (omega (arith, states.1)) transitions.2,
-        (inr (
-          _,
-          holds_at _ _ (omega (arith, states.1, transitions.1)) intervals.2,
-          inl (unheld_at _ _ (omega (arith, states.1, transitions.1, intervals.1)) c.in_err-modes.ensures),
-        )),
-      )),
-    ))
+    rw (p.1, p.2) (broken_after (drop 1 forms) _ c.in_ok-states.ensures.read (broken_after (drop 2 forms) _ c.in_ok-transitions.ensures.read (broken_after (drop 3 forms) _ c.in_ok-intervals.ensures.read (inl c.in_err-modes.ensures.read))))
 
-pub returns-in_err-rules : goal.returns-in_err-rules
-returns-in_err-rules c =
+pub returns-in_err-rules-clause-laid : goal.returns-in_err-rules-clause-laid
+returns-in_err-rules-clause-laid c =
     let p = err_from_is_err_and c.from_residual-in_err-rules.result c.from_residual-in_err-rules.ensures.1 in
-    let states = c.in_ok-states.ensures in
-    let transitions = c.in_ok-transitions.ensures in
-    let intervals = c.in_ok-intervals.ensures in
-    let modes = c.in_ok-modes.ensures in
-    rw (p.1, p.2)
-    (inr (
-      _,
-      states.2,
-      (inr (
-        _,
-        holds_at _ _ (omega (arith, states.1)) transitions.2,
-        (inr (
-          _,
-          holds_at _ _ (omega (arith, states.1, transitions.1)) intervals.2,
-          (inr (
-            _,
-            holds_at _ _ (omega (arith, states.1, transitions.1, intervals.1)) modes.2,
-            inl (unheld_at _ _ (omega (arith, states.1, transitions.1, intervals.1, modes.1)) c.in_err-rules.ensures),
-          )),
-        )),
-      )),
-    ))
+    rw (p.1, p.2) (broken_after (drop 1 forms) _ c.in_ok-states.ensures.read (broken_after (drop 2 forms) _ c.in_ok-transitions.ensures.read (broken_after (drop 3 forms) _ c.in_ok-intervals.ensures.read (broken_after (drop 4 forms) _ c.in_ok-modes.ensures.read (inl c.in_err-rules.ensures.read)))))
 
-pub returns-in_err-actions : goal.returns-in_err-actions
-returns-in_err-actions c =
+pub returns-in_err-actions-clause-laid : goal.returns-in_err-actions-clause-laid
+returns-in_err-actions-clause-laid c =
     let p = err_from_is_err_and c.from_residual-in_err-actions.result c.from_residual-in_err-actions.ensures.1 in
-    let states = c.in_ok-states.ensures in
-    let transitions = c.in_ok-transitions.ensures in
-    let intervals = c.in_ok-intervals.ensures in
-    let modes = c.in_ok-modes.ensures in
-    let rules = c.in_ok-rules.ensures in
-    rw (p.1, p.2)
-    (inr (
-      _,
-      states.2,
-      (inr (
-        _,
-        holds_at _ _ (omega (arith, states.1)) transitions.2,
-        (inr (
-          _,
-          holds_at _ _ (omega (arith, states.1, transitions.1)) intervals.2,
-          (inr (
-            _,
-            holds_at _ _ (omega (arith, states.1, transitions.1, intervals.1)) modes.2,
-            (inr (
-              _,
-              holds_at _ _ (omega (arith, states.1, transitions.1, intervals.1, modes.1)) rules.2,
-              inl (unheld_at _ _ (omega (arith, states.1, transitions.1, intervals.1, modes.1, rules.1)) c.in_err-actions.ensures),
-            )),
-          )),
-        )),
-      )),
-    ))
+    rw (p.1, p.2) (broken_after (drop 1 forms) _ c.in_ok-states.ensures.read (broken_after (drop 2 forms) _ c.in_ok-transitions.ensures.read (broken_after (drop 3 forms) _ c.in_ok-intervals.ensures.read (broken_after (drop 4 forms) _ c.in_ok-modes.ensures.read (broken_after (drop 5 forms) _ c.in_ok-rules.ensures.read (inl c.in_err-actions.ensures.read))))))
 
-pub returns-then-actions-image : goal.returns-then-actions-image
-returns-then-actions-image c =
-    let states = c.in_ok-states.ensures in
-    let transitions = c.in_ok-transitions.ensures in
-    let intervals = c.in_ok-intervals.ensures in
-    let modes = c.in_ok-modes.ensures in
-    let rules = c.in_ok-rules.ensures in
-    let actions = c.in_ok-actions.ensures in
-    (inr (
-      _,
-      states.2,
-      (inr (
-        _,
-        holds_at _ _ (omega (arith, states.1)) transitions.2,
-        (inr (
-          _,
-          holds_at _ _ (omega (arith, states.1, transitions.1)) intervals.2,
-          (inr (
-            _,
-            holds_at _ _ (omega (arith, states.1, transitions.1, intervals.1)) modes.2,
-            (inr (
-              _,
-              holds_at _ _ (omega (arith, states.1, transitions.1, intervals.1, modes.1)) rules.2,
-              (inr (
-                _,
-                holds_at _ _ (omega (arith, states.1, transitions.1, intervals.1, modes.1, rules.1)) actions.2,
-                (omega (arith, states.1, transitions.1, intervals.1, modes.1, rules.1, actions.1, c.if-actions-image.true), ap (λ (p : ℕ). notice 3 p Table) (omega (arith, states.1, transitions.1, intervals.1, modes.1, rules.1, actions.1))),
-              )),
-            )),
-          )),
-        )),
-      )),
-    ))
+pub returns-then-actions-image-clause-laid : goal.returns-then-actions-image-clause-laid
+returns-then-actions-image-clause-laid c = broken_after (drop 1 forms) _ c.in_ok-states.ensures.read (broken_after (drop 2 forms) _ c.in_ok-transitions.ensures.read (broken_after (drop 3 forms) _ c.in_ok-intervals.ensures.read (broken_after (drop 4 forms) _ c.in_ok-modes.ensures.read (broken_after (drop 5 forms) _ c.in_ok-rules.ensures.read (broken_after (drop 6 forms) _ c.in_ok-actions.ensures.read (c.if-actions-image.true, refl))))))

@@ -6,7 +6,6 @@ use Rattle.checked_table.specs.Steps.{NoRound, LowestRound}
 use Rattle.checked_table.specs.Checking.{layout, «record», round}
 use Rattle.checked_table.proofs.Holding.{atn-meaning}
 use Rattle.checked_table.proofs.Judging.{refused}
-use Rattle.image.proofs.Sectioning.{sections_fit}
 use Rattle.checked_table.proofs.Opening.{laid_out, laid_in, told}
 use Rattle.checked_table.proofs.checking.check.Goals as goal
 
@@ -15,9 +14,6 @@ returns-in_err-sections c =
     let p = err_from_is_err_and c.from_residual.result c.from_residual.ensures.1 in
     let faulty = layout c.in_err-sections.ensures.laid in
     rw (p.1, p.2) (record { passes = refused c.args.image.now _ faulty; tells = faulty })
-
-pub over-image-requires : goal.over-image-requires
-over-image-requires c = let l = c.in_ok-sections.ensures in sections_fit c.args.image.now c.in_ok-sections.sections l.laid l.placed
 
 pub returns-in-Some : goal.returns-in-Some
 returns-in-Some c =

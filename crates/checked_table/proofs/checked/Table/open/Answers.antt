@@ -2,12 +2,8 @@ use Rattle.std.proofs.Common.{sym, ◌∙◌, subst}
 use Rattle.image.specs.Keeping.{RecordsKeep}
 use Rattle.checked_table.specs.Steps.{NoRound}
 use Rattle.checked_table.proofs.Holding.{atn-meaning}
-use Rattle.image.proofs.Sectioning.{sections_fit}
 use Rattle.checked_table.proofs.Opening.{laid_in, told_of}
 use Rattle.checked_table.proofs.checked.Table.open.Goals as goal
-
-pub over-requires : goal.over-requires
-over-requires c = let l = c.in-Ok.ensures in sections_fit c.args.image.now c.in-Ok.sections l.laid l.placed
 
 pub over-records-requires : goal.over-records-requires
 over-records-requires c =

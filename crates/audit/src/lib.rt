@@ -10,7 +10,7 @@ mod totals;
 mod walking;
 
 pub use lines::Lines;
-pub use report::{Read, Report, audit_line};
+pub use report::{Read, Report, ReportLine, audit_line};
 pub use tasks::{Task, task_of};
 pub use totals::{Audit, Totals, audit_recording};
 pub use walking::{Walked, walk};

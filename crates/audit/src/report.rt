@@ -1,6 +1,6 @@
 ghost use Rattle.std.specs.Prelude.{Some};
 ghost use Rattle.audit.specs.Reports.{Audited};
-ghost use Rattle.audit.specs.Shown.{read_line};
+ghost use Rattle.audit.specs.Shown.{read_line, report_line};
 
 use crate::walking::walk;
 use input::{Fault, Utf8Source};
@@ -33,5 +33,21 @@ impl fmt::Display for Read {
     fn fmt<W: fmt::Write>(&self, f: &mut fmt::Formatter<W>) -> fmt::Result {
         let Read { symbols, bytes } = *self;
         write!(f, "{symbols} symbols, {bytes} bytes")
+    }
+}
+
+/// A report as it is printed.
+// A type of its own: a `Report` is a `Result`, which has no `Display`.
+#[derive(Clone, Copy, PartialEq, Eq, Debug)]
+pub struct ReportLine(pub Report);
+
+impl fmt::Display for ReportLine {
+    ghost output = { λ line. Some (report_line line.0) };
+
+    fn fmt<W: fmt::Write>(&self, f: &mut fmt::Formatter<W>) -> fmt::Result {
+        match self.0 {
+            Ok(read) => write!(f, "{read}"),
+            Err(fault) => write!(f, "{fault}"),
+        }
     }
 }

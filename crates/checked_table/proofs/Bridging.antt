@@ -68,7 +68,7 @@ end_call true e = absurd cc
 end_call false e = absurd cc
 
 -- Only a call is passed as one.
-is_call : (a : Atn) (kind : TransitionKind) → passing_of a kind ≡ Call → (rule : ℕ) × (follow : ℕ) × (kind ≡ Rule rule follow)
+pub is_call : (a : Atn) (kind : TransitionKind) → passing_of a kind ≡ Call → (rule : ℕ) × (follow : ℕ) × (kind ≡ Rule rule follow)
 is_call a Epsilon e = absurd cc
 is_call a (Range low high) e = end_call (matches a (Range low high) end_of_text) e
 is_call a (Rule rule follow) e = (rule, follow, refl)

@@ -14,7 +14,7 @@ use Rattle.image.specs.Raw.{raw_state, raw_transition, raw_interval, raw_mode, r
 use Rattle.image.specs.Rules.{kind_and_rule, intervals_there, fields_keep, in_rule, of_kind, call_keeps, leaves, transition_keeps, mode_keeps, end_keeps, rule_keeps, argument_keeps, same_action, action_keeps}
 use Rattle.image.specs.Spans.{Fits, place_of, sections_of}
 use Rattle.image.specs.declared.kinds.TransitionKind.{TransitionKind}
-use Rattle.image.specs.declared.kinds.TransitionKind.TheVariants.{Set, NotSet}
+use Rattle.image.specs.declared.kinds.TransitionKind.TheVariants.{Set, NotSet, Rule as Call}
 use Rattle.checked_table.specs.declared.parts.State.{State}
 use Rattle.checked_table.specs.declared.parts.Transition.{Transition}
 use Rattle.checked_table.specs.Formed.{Formed}
@@ -22,7 +22,7 @@ use Rattle.checked_table.specs.Atn.{Atn, state_at, transition_at, interval_at, m
 use Rattle.checked_table.specs.Decoding.{atn_of, meaning, state_of, transition_of, rule_of}
 use Rattle.image.specs.Kinds.{transition_kind_of, action_of}
 use Rattle.checked_table.specs.Means.{atn_in}
-use Rattle.image.proofs.Ruling.{below_natural, or_nothing, number_of, kind_number, call_is, numbers_parts, numbers_span}
+use Rattle.image.proofs.Ruling.{is_pos, below_natural, or_nothing, number_of, kind_number, call_is, numbers_parts, numbers_span}
 use Rattle.checked_table.proofs.Listing.{listed-length, listed_at}
 use Rattle.image.proofs.Counting.{state_numbers}
 
@@ -37,6 +37,27 @@ rule_small r n h = go (or_cases (is r.kind 6 && same_number r.rule end_of_text) 
     go : ((is r.kind 6 && same_number r.rule end_of_text) ≡ true) ⊎ (((is r.kind 1 || (is r.kind 2 || is r.kind 7)) && below r.rule n) ≡ true) → natural r.rule ≤ n
     go (inl e) = none r.rule (and_parts (is r.kind 6) (same_number r.rule end_of_text) e).1
     go (inr e) = omega (arith, below_natural r.rule n (and_parts (is r.kind 1 || (is r.kind 2 || is r.kind 7)) (below r.rule n) e).1)
+
+-- The argument of an action fits 16 bits, whatever its kind.
+argument_small : (s : Sections) (kind argument : ℤ) → s.modes.count ≤ 64 → argument_keeps s kind argument ≡ true → natural argument < 65536
+argument_small s kind argument m h = go (or_cases any (mode || none) h)
+  where
+    any : Bool
+    any = (is kind 0 || is kind 7) && below argument 65536
+
+    mode : Bool
+    mode = (is kind 2 || is kind 5) && below argument s.modes.count
+
+    none : Bool
+    none = (is kind 3 || (is kind 4 || is kind 6)) && is argument 0
+
+    rest : (mode ≡ true) ⊎ (none ≡ true) → natural argument < 65536
+    rest (inl e) = omega (arith, m, below_natural argument s.modes.count (and_parts (is kind 2 || is kind 5) (below argument s.modes.count) e).1)
+    rest (inr e) = omega (arith, ap natural (is_pos argument 0 (and_parts (is kind 3 || (is kind 4 || is kind 6)) (is argument 0) e).1))
+
+    go : (any ≡ true) ⊎ ((mode || none) ≡ true) → natural argument < 65536
+    go (inl e) = below_natural argument 65536 (and_parts (is kind 0 || is kind 7) (below argument 65536) e).1
+    go (inr e) = rest (or_cases mode none e)
 
 intervals_small : (p q : ℤ) (n : ℕ) → intervals_there p q n ≡ true → natural p + natural q ≤ n
 intervals_small (pos p) (pos q) n h = leb-true (p + q) n (and_parts (leb 1 q) (leb (p + q) n) h).1
@@ -128,6 +149,7 @@ module _ (r : Records) where
     pub keeps : fields_keep s x.kind x.p x.q ≡ true
     pub target : natural x.target < s.states.count
     pub small : natural x.target < 65536
+    pub follow : (rule follow : ℕ) → (transition_of x).kind ≡ Call rule follow → follow < s.states.count
     pub is : transition_at (atn_in r) k ≡ transition_of x
     pub fits : SetFits (atn_in r) (transition_of x).kind
 
@@ -143,6 +165,7 @@ module _ (r : Records) where
         keeps = parts.0;
         target = target;
         small = omega (arith, target, fits_of r);
+        follow = λ rule follow e. (call_is s y.kind y.p y.q rule follow parts.0 e).4;
         is = listed_at _ _ k _ here;
         fits = set_fits (atn_in r) s y.kind y.p y.q intervals_are parts.0;
       })
@@ -150,10 +173,11 @@ module _ (r : Records) where
   pub interval_is : (k : ℕ) → k < s.intervals.count → interval_at (atn_in r) k ≡ raw_interval image s k
   interval_is k h = listed_at _ _ k _ h
 
-  of_kind_small : (kind x : ℤ) → of_kind image s kind x ≡ true → natural x < 65536
-  of_kind_small kind x h = omega (arith, below_natural x s.states.count (and_parts (below x s.states.count) (same_number (raw_state image s (natural x)).kind kind) h).0, fits_of r)
+  of_kind_small : (kind x : ℤ) → of_kind image s kind x ≡ true → natural x < s.states.count
+  of_kind_small kind x h = below_natural x s.states.count (and_parts (below x s.states.count) (same_number (raw_state image s (natural x)).kind kind) h).0
 
   pub record ModeKept (k : ℕ) (x : RawMode) : Type 0 where
+    pub start : natural x.start < s.states.count
     pub small : natural x.start < 65536
     pub is : mode_at (atn_in r) k ≡ natural x.start
 
@@ -161,9 +185,11 @@ module _ (r : Records) where
   unfolding mode_keeps
   mode_kept k x h e =
       let here : k < s.modes.count = omega (arith, h, modes_are) in
-      subst (ModeKept k) (sym e) (record { small = of_kind_small (pos 6) (raw_mode image s k) (r.keep Modes k here); is = listed_at _ _ k _ here })
+      let start = of_kind_small (pos 6) (raw_mode image s k) (r.keep Modes k here) in
+      subst (ModeKept k) (sym e) (record { start = start; small = omega (arith, start, fits_of r); is = listed_at _ _ k _ here })
 
   pub record RuleKept (k : ℕ) (x : RawRule) : Type 0 where
+    pub ends : (natural x.start < s.states.count) × (natural x.stop < s.states.count)
     pub small : (natural x.start < 65536) × (natural x.stop < 65536) × (natural x.token_type < 65536)
     pub is : rule_at (atn_in r) k ≡ rule_of x
 
@@ -176,10 +202,15 @@ module _ (r : Records) where
       let b = and_parts (end_keeps image s k (pos 7) y.stop) (below y.token_type 65536) a.1 in
       let start = of_kind_small (pos 2) y.start (and_parts (of_kind image s (pos 2) y.start) (is (raw_state image s (natural y.start)).rule k) a.0).0 in
       let stop = of_kind_small (pos 7) y.stop (and_parts (of_kind image s (pos 7) y.stop) (is (raw_state image s (natural y.stop)).rule k) b.0).0 in
-      subst (RuleKept k) (sym e) (record { small = (start, stop, below_natural y.token_type 65536 b.1); is = listed_at _ _ k _ here })
+      subst (RuleKept k) (sym e) (record {
+        ends = (start, stop);
+        small = (omega (arith, start, fits_of r), omega (arith, stop, fits_of r), below_natural y.token_type 65536 b.1);
+        is = listed_at _ _ k _ here;
+      })
 
   pub record ActionKept (k : ℕ) (x : RawAction) : Type 0 where
     pub keeps : argument_keeps s x.kind x.argument ≡ true
+    pub small : natural x.argument < 65536
     pub is : action_at (atn_in r) k ≡ action_of x.kind x.argument
 
   pub action_kept : (k : ℕ) (x : RawAction) → k < length (atn_in r).actions → x ≡ raw_action image s k → ActionKept k x
@@ -188,7 +219,11 @@ module _ (r : Records) where
       let here : k < s.actions.count = omega (arith, h, actions_are) in
       let y = raw_action image s k in
       let parts = and_parts (argument_keeps s y.kind y.argument) (all_of (λ j. not (same_action image s j k)) 0 k) (r.keep Actions k here) in
-      subst (ActionKept k) (sym e) (record { keeps = parts.0; is = listed_at _ _ k _ here })
+      subst (ActionKept k) (sym e) (record {
+        keeps = parts.0;
+        small = argument_small s y.kind y.argument (omega (arith, fits_of r)) parts.0;
+        is = listed_at _ _ k _ here;
+      })
 
   pub formed : Formed (atn_in r)
   formed =
@@ -202,9 +237,7 @@ module _ (r : Records) where
             omega (arith, ap (λ (x : Transition). x.target) kept.is, kept.target, states_are)
             );
         follows = λ t rule follow h e. (
-            let x = raw_transition image s t in
-            let kept = transition_kept t x h refl in
-            let call = call_is s x.kind x.p x.q rule follow kept.keeps (sym (ap (λ (y : Transition). y.kind) kept.is) ∙ e) in
-            omega (arith, call.4, states_are)
+            let kept = transition_kept t _ h refl in
+            omega (arith, kept.follow rule follow (sym (ap (λ (x : Transition). x.kind) kept.is) ∙ e), states_are)
             );
       }

@@ -4,3 +4,4 @@ pub mod Opening
 pub mod Matching
 pub mod Bridging
 pub mod Judging
+pub mod Calls

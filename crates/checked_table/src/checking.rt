@@ -1,5 +1,5 @@
 ghost use Rattle.input.specs.Faults.{told};
-ghost use Rattle.std.specs.Prelude.{◌↔◌, IsOk, IfErr};
+ghost use Rattle.std.specs.Prelude.{◌↔◌, IsOk, OnOk, IfErr};
 ghost use Rattle.checked_table.specs.Checking.{Keeps, Faulty};
 
 use crate::records::Records;
@@ -9,8 +9,10 @@ use input::Fault;
 use table::Sections;
 
 /// Checks an image: it passes exactly when it keeps the rules of a table, else the first fault is told.
+// `keeps` is a half of `passes`, in the form in which a caller that opens the table finds it.
 pub fn check(image: &[i32]) -> Result<(), Fault>
     ensures passes { IsOk result ↔ Keeps image.now }
+    ensures keeps { OnOk result (Keeps image.now) }
     ensures tells { IfErr result (λ fault. Faulty image.now (told fault)) }
 {
     let sections = Sections::of(image)?;

@@ -3,11 +3,12 @@ ghost use Rattle.checked_table.specs.Graphs.{Noted, graph_of};
 ghost use Rattle.checked_table.specs.Means.{atn_in};
 
 use crate::records::Records;
-use image::{StateKind, TransitionKind};
+use image::StateKind;
 use rounds::{Automaton, Passing};
 
 /// Records as an automaton of which only the silent steps count, with how each transition is passed.
-// States and transitions are few, so a cast of their numbers to 16 bits loses nothing.
+// States and transitions are few, so a cast of their numbers to 16 bits loses nothing. What the search asks for is inlined
+// into it: a call for each question took longer than the answers.
 #[derive(Drop)]
 pub struct SilentSteps<'r, 'a, 'p> {
     pub records: &'r Records<'a>,
@@ -25,32 +26,35 @@ impl Automaton for SilentSteps<'_, '_, '_> {
         usize::from(self.records.counts().states)
     }
 
+    #[inline(always)]
     fn first(&self, s: usize) -> usize {
-        usize::from(self.records.state(s as u16).first)
+        let (first, _) = self.records.span(s as u16);
+        usize::from(first)
     }
 
+    #[inline(always)]
     fn end(&self, s: usize) -> usize {
-        let state = self.records.state(s as u16);
-        usize::from(state.first) + usize::from(state.count)
+        let (first, count) = self.records.span(s as u16);
+        usize::from(first) + usize::from(count)
     }
 
+    #[inline(always)]
     fn stops(&self, s: usize) -> bool {
         matches!(self.records.state(s as u16).kind, StateKind::RuleStop)
     }
 
+    #[inline(always)]
     fn passing(&self, t: usize) -> Passing {
         self.passings[t]
     }
 
+    #[inline(always)]
     fn target(&self, t: usize) -> u16 {
-        self.records.transition(t as u16).target
+        self.records.leads_to(t as u16)
     }
 
+    #[inline(always)]
     fn return_state(&self, t: usize) -> u16 {
-        let TransitionKind::Rule { follow_state, .. } = self.records.transition(t as u16).kind
-        else {
-            unreachable()
-        };
-        follow_state
+        self.records.follow_state(t as u16)
     }
 }

@@ -6,28 +6,26 @@ use crate::error::NumbersError;
 use crate::words::{Word, Words};
 use std::alloc::Global;
 
-// Is there one digit or more, and nothing else?
-fn is_digits(word: &[u8]) -> bool
-    ensures { result ≡ is_digits word.now }
-{
-    !word.is_empty() && word.iter().all(u8::is_ascii_digit)
-}
+// The largest size that is told exactly; it is past every signed 32-bit number.
+const MOST: u64 = 0xffff_ffff;
 
 // The number that digits write, or `u32::MAX` where it is larger; `None` where they are no digits.
 fn size_of_digits(digits: &[u8]) -> Option<u32>
     ensures digits { IsSome result ↔ (is_digits digits.now ≡ true) }
     ensures size { IfSome result (λ n. n ≡ min (size_of digits.now) 4294967295) }
 {
-    if !is_digits(digits) {
+    if digits.is_empty() {
         return None;
     }
-    // All saturates: past 32 bits only that is told, and a byte below `0`, which is none of the digits, would count 0.
-    Some(
-        digits.iter().fold(0, |size: u32, digit| {
-            size.saturating_mul(10)
-                .saturating_add(u32::from(digit.saturating_sub(b'0')))
-        }),
-    )
+    // In one pass, since a word may be long. Past 32 bits only that is told.
+    let size = digits.iter().try_fold(0, |size: u64, digit| {
+        if digit.is_ascii_digit() {
+            Some(size.min(MOST) * 10 + u64::from(*digit - b'0'))
+        } else {
+            None
+        }
+    })?;
+    Some(size.min(MOST) as u32)
 }
 
 // The value of a word, held between -4294967295 and 4294967295; `None` where it is no decimal number.

@@ -25,8 +25,8 @@ impl Image<'_> {
         requires inside { t < self.now.sections.transitions.count }
         ensures { result ≡ may_decide self.now.numbers.now self.now.sections first t }
     {
-        silent_kind(self.record::<RawTransition>(t).kind)
-            && (first..t).all(|u| !self.same_target(u, t))
+        let r: RawTransition = self.record(t);
+        silent_kind(r.kind) && (first..t).all(|u| !self.has_target(u, r.target))
     }
 
     // Is there one transition at most, or may all of them decide?

@@ -50,8 +50,10 @@ const SKIP: i32 = 6;
 
 const TYPE: i32 = 7;
 
+// Inlined: a caller that knows that a record keeps its rules then pays for no test of them.
 impl Image<'_> {
     /// What is to be done by an action, where its argument fits its kind.
+    #[inline(always)]
     pub fn lexer_action(&self, r: RawAction) -> Option<LexerAction>
         ensures keeps { is_some result ≡ argument_keeps self.now.sections r.kind r.argument }
         ensures means { IfSome result (λ action. action ≡ action_of r.kind r.argument) }
@@ -70,6 +72,7 @@ impl Image<'_> {
     }
 
     /// What a transition does, or what it matches, where p and q are what they may be at its kind.
+    #[inline(always)]
     pub fn transition_kind(&self, r: RawTransition) -> Option<TransitionKind>
         ensures keeps { is_some result ≡ fields_keep self.now.sections r.kind r.p r.q }
         ensures means { IfSome result (λ kind. kind ≡ transition_kind_of r.kind r.p r.q) }
@@ -106,6 +109,7 @@ impl Image<'_> {
     }
 
     /// What a state is, where its rule is what it may be at its kind.
+    #[inline(always)]
     pub fn state_kind(&self, r: RawState) -> Option<StateKind>
         ensures keeps { is_some result ≡ kind_and_rule r self.now.sections.rules.count }
         ensures means { IfSome result (λ kind. kind ≡ state_kind_of r.kind) }

@@ -1,9 +1,9 @@
 ghost use Rattle.std.specs.Prelude.{◌≡◌, ◌+◌, ◌<◌, ◌≤◌, true, false, MatchOption};
-ghost use Rattle.image.specs.Numbers.{natural, below};
-ghost use Rattle.image.specs.Raw.{raw_state, counts_before};
+ghost use Rattle.image.specs.Numbers.{natural, below, same_number};
+ghost use Rattle.image.specs.Raw.{raw_state, raw_transition, counts_before};
 ghost use Rattle.image.specs.Rules.{flag_keeps, count_keeps, span_keeps, silent_kind, in_rule, of_kind, call_keeps};
 ghost use Rattle.image.specs.Rules.{may_leave, transition_keeps, interval_keeps, mode_keeps, end_keeps, rule_keeps};
-ghost use Rattle.image.specs.Rules.{same_action, same_target};
+ghost use Rattle.image.specs.Rules.{same_action};
 
 use crate::image::Image;
 use crate::kinds::TransitionKind;
@@ -189,13 +189,11 @@ impl Image<'_> {
         self.record::<RawAction>(j) == self.record(k)
     }
 
-    // Have two transitions the same target?
-    #[tactic(auto, unfolding(crate::specs::Rules::same_target))]
-    pub(crate) fn same_target(&self, u: usize, t: usize) -> bool
-        requires first { u < self.now.sections.transitions.count }
-        requires second { t < self.now.sections.transitions.count }
-        ensures { result ≡ same_target self.now.numbers.now self.now.sections u t }
+    // Does transition u lead to the target?
+    pub(crate) fn has_target(&self, u: usize, target: i32) -> bool
+        requires { u < self.now.sections.transitions.count }
+        ensures { result ≡ same_number (raw_transition self.now.numbers.now self.now.sections u).target target }
     {
-        self.record::<RawTransition>(u).target == self.record::<RawTransition>(t).target
+        self.record::<RawTransition>(u).target == target
     }
 }

@@ -6,7 +6,7 @@
 mod tests;
 
 use anyhow::anyhow;
-use audit::{Audit, Walked, walk};
+use audit::{Audit, ReportLine, Walked, walk};
 use input::{Source, Utf8Source};
 use std::fs;
 use std::time::Instant;
@@ -26,10 +26,8 @@ pub fn audit_file(rt: &HostRuntime, path: &str) -> anyhow::Result<()> {
     let mut audit = Audit::of(recording.as_slice());
     while let Some(report) = audit.next_report() {
         let n = audit.totals().lines;
-        match report {
-            Ok(read) => println!(rt; "line {n}: {read}")?,
-            Err(fault) => println!(rt; "line {n}: {fault}")?,
-        }
+        let said = ReportLine(report);
+        println!(rt; "line {n}: {said}")?;
     }
     let totals = audit.totals();
     println!(rt; "{totals}")?;

@@ -23,6 +23,7 @@ pub struct Edges<'a, T: Automaton> {
 impl<T: Automaton> Edges<'_, T> {
     // Meets what the transition `t` leads to.
     #[tactic(auto, using(crate::proofs::Ranks::calls_followed))]
+    #[inline(always)]
     fn follow(&self, search: &mut Search, t: usize)
         requires { t < (T.graph self.now.automaton.now).transitions }
         ensures { Grown (Leads (T.graph self.now.automaton.now) t) search.old search.new }
@@ -41,6 +42,7 @@ impl<T: Automaton> Edges<'_, T> {
     }
 
     // Meets what `x` has an edge to.
+    #[inline(always)]
     fn expand(&self, search: &mut Search, x: u16)
         requires { x < (T.graph self.now.automaton.now).states }
         ensures { Grown (Edge (T.graph self.now.automaton.now) x) search.old search.new }

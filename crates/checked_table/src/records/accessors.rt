@@ -2,10 +2,12 @@ ghost use Rattle.std.specs.Prelude.{◌≡◌, ◌+◌, ◌<◌, ◌≤◌, leng
 ghost use Rattle.checked_table.specs.Atn.{state_at, transition_at, interval_at, mode_at, rule_at, action_at};
 ghost use Rattle.checked_table.specs.Atn.{contains, interval_has, is_symbol, matches, SetFits};
 ghost use Rattle.checked_table.specs.Counts.{Counted};
+ghost use Rattle.checked_table.specs.Graphs.{passing_of, follow_of};
 ghost use Rattle.checked_table.specs.Means.{atn_in};
 ghost use Rattle.image.specs.Keeping.{RecordsKeep};
 ghost use Rattle.image.specs.Numbers.{natural};
 ghost use Rattle.image.specs.Spans.{sections_of};
+ghost use Rattle.rounds.specs.declared.passing.Passing.TheVariants.{Call};
 
 use crate::counts::Counts;
 use crate::parts::{Rule, State, Transition};
@@ -15,12 +17,13 @@ use image::{
     TransitionKind,
 };
 
-// A number of a record as 16 bits; it is 0 where it is below 0, as in the meaning of a table.
+// A number of a record as 16 bits; it is 0 where it is below 0, as in the meaning of a table. Not by `try_from`, whose
+// test of the upper end, which is proved here, took a third of the search for rounds.
 fn small(x: i32) -> u16
     requires { natural x < 65536 }
     ensures { result ≡ natural x }
 {
-    u16::try_from(x).unwrap_or(0)
+    x.max(0) as u16
 }
 
 impl<'a> Records<'a> {
@@ -55,6 +58,7 @@ impl Records<'_> {
     }
 
     /// State s.
+    #[inline(always)]
     pub fn state(&self, s: u16) -> State
         requires { s < length (atn_in self.now).states }
         ensures { result ≡ state_at (atn_in self.now) s }
@@ -73,6 +77,7 @@ impl Records<'_> {
     }
 
     /// Transition t.
+    #[inline(always)]
     pub fn transition(&self, t: u16) -> Transition
         requires { t < length (atn_in self.now).transitions }
         ensures is { result ≡ transition_at (atn_in self.now) t }
@@ -163,6 +168,39 @@ impl Records<'_> {
             TransitionKind::Wildcard => is_symbol(symbol),
             _ => false,
         }
+    }
+}
+
+// Parts of records, alone: the search for rounds asks for them millions of times, and to tell the kind of a record costs
+// more than all the rest of it.
+impl Records<'_> {
+    // Which transitions state s has: the first, and how many.
+    pub(crate) fn span(&self, s: u16) -> (u16, u16)
+        requires { s < length (atn_in self.now).states }
+        ensures first { result.0 ≡ (state_at (atn_in self.now) s).first }
+        ensures count { result.1 ≡ (state_at (atn_in self.now) s).count }
+    {
+        let r: RawState = self.image.record(s as usize);
+        (small(r.first), small(r.count))
+    }
+
+    // Where transition t leads.
+    pub(crate) fn leads_to(&self, t: u16) -> u16
+        requires { t < length (atn_in self.now).transitions }
+        ensures { result ≡ (transition_at (atn_in self.now) t).target }
+    {
+        let raw: RawTransition = self.image.record(t as usize);
+        small(raw.target)
+    }
+
+    // Where transition t returns to, a call.
+    pub(crate) fn follow_state(&self, t: u16) -> u16
+        requires inside { t < length (atn_in self.now).transitions }
+        requires call { passing_of (atn_in self.now) (transition_at (atn_in self.now) t).kind ≡ Call }
+        ensures { result ≡ follow_of (transition_at (atn_in self.now) t).kind }
+    {
+        let raw: RawTransition = self.image.record(t as usize);
+        small(raw.p)
     }
 }
 

@@ -42,22 +42,25 @@ impl<'a> Words<'a> {
         ensures words { left self.new ≡ left self.old }
         ensures ink { 0 < length self.new.rest.now → is_ink (slice_index self.new.rest.now 0) ≡ true }
     {
-        // A loop: what a byte is depends on whether a comment goes on, and a line may end with it.
+        // A loop: what a byte is depends on whether a comment goes on, and a line may end with it. The fields are
+        // written once, after it: written at each byte they cost more than its tests.
+        let mut rest = self.rest;
+        let mut line = self.line;
         let mut comment = false;
-        while let Some((&byte, rest)) = self.rest.split_first() {
-            if !comment && is_ink(byte) {
-                break;
-            }
-            self.rest = rest;
+        while let Some((&byte, after)) = rest.split_first() {
             match byte {
                 b'\n' => {
-                    self.line += 1;
+                    line += 1;
                     comment = false;
                 }
                 b'#' => comment = true,
-                _ => {}
+                _ if comment || is_white(byte) => {}
+                _ => break,
             }
+            rest = after;
         }
+        self.rest = rest;
+        self.line = line;
     }
 }
 

@@ -7,7 +7,7 @@ use Rattle.image.proofs.Ranges.{all_of_range}
 use Rattle.image.proofs.image.Image.may_decide.Goals as goal
 
 pub returns-then-silent_kind : goal.returns-then-silent_kind
-unfolding may_decide
+unfolding may_decide same_target
 returns-then-silent_kind c =
     let image = c.args.self.now.numbers.now in
     let s = c.args.self.now.sections in

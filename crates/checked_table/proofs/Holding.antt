@@ -18,12 +18,13 @@ use Rattle.image.specs.declared.kinds.TransitionKind.TheVariants.{Set, NotSet, R
 use Rattle.checked_table.specs.declared.parts.State.{State}
 use Rattle.checked_table.specs.declared.parts.Transition.{Transition}
 use Rattle.checked_table.specs.Formed.{Formed}
-use Rattle.checked_table.specs.Atn.{Atn, state_at, transition_at, interval_at, mode_at, rule_at, action_at, SetFits}
+use Rattle.checked_table.specs.Atn.{Atn, stops, state_at, transition_at, interval_at, mode_at, rule_at, action_at, SetFits}
 use Rattle.checked_table.specs.Decoding.{atn_of, meaning, state_of, transition_of, rule_of}
-use Rattle.image.specs.Kinds.{transition_kind_of, action_of}
+use Rattle.image.specs.Kinds.{state_kind_of, transition_kind_of, action_of}
 use Rattle.checked_table.specs.Means.{atn_in}
 use Rattle.image.proofs.Ruling.{is_pos, below_natural, or_nothing, number_of, kind_number, call_is, numbers_parts, numbers_span}
 use Rattle.checked_table.proofs.Listing.{listed-length, listed_at}
+use Rattle.checked_table.proofs.Stops.{stop_is}
 use Rattle.image.proofs.Counting.{state_numbers}
 
 -- The rule of a state, or 0 for none.
@@ -117,6 +118,7 @@ module _ (r : Records) where
     pub keeps : kind_and_rule x s.rules.count ≡ true
     pub small : (natural x.rule < 65536) × (natural x.first < 65536) × (natural x.count < 65536)
     pub span : natural x.first + natural x.count ≤ s.transitions.count
+    pub stop : is x.count 0 ≡ stops (state_kind_of x.kind)
     pub is : state_at (atn_in r) k ≡ state_of x
 
   pub state_kept : (k : ℕ) (x : RawState) → k < length (atn_in r).states → x ≡ raw_state image s k → StateKept k x
@@ -130,6 +132,7 @@ module _ (r : Records) where
         keeps = parts.0;
         small = (omega (arith, rule_small (raw_state image s k) s.rules.count parts.0, fits_of r), omega (arith, first, span.1, fits_of r), omega (arith, span.1, fits_of r));
         span = omega (arith, first, span.1);
+        stop = stop_is (raw_state image s k) s.rules.count parts.0 parts.2;
         is = listed_at _ _ k _ here;
       })
 

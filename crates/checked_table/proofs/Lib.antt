@@ -1,4 +1,5 @@
 pub mod Listing
+pub mod Stops
 pub mod Holding
 pub mod Opening
 pub mod Matching

@@ -3,7 +3,6 @@ ghost use Rattle.checked_table.specs.Graphs.{Noted, graph_of};
 ghost use Rattle.checked_table.specs.Means.{atn_in};
 
 use crate::records::Records;
-use image::StateKind;
 use rounds::{Automaton, Passing};
 
 /// Records as an automaton of which only the silent steps count, with how each transition is passed.
@@ -40,7 +39,7 @@ impl Automaton for SilentSteps<'_, '_, '_> {
 
     #[inline(always)]
     fn stops(&self, s: usize) -> bool {
-        matches!(self.records.state(s as u16).kind, StateKind::RuleStop)
+        self.records.is_stop(s as u16)
     }
 
     #[inline(always)]

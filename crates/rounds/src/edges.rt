@@ -14,10 +14,10 @@ use crate::search::Search;
 #[derive(Drop)]
 pub struct Edges<'a, T: Automaton> {
     pub automaton: &'a T,
-    pub exits: [bool; MAX_STATES],
+    pub exits: &'a [bool; MAX_STATES],
     ghost sound: { Sound (T.graph automaton.now) },
     ghost few: { (T.graph automaton.now).states ≤ 4096 },
-    ghost exact: { ExactlyExits (T.graph automaton.now) exits },
+    ghost exact: { ExactlyExits (T.graph automaton.now) exits.now },
 }
 
 impl<T: Automaton> Edges<'_, T> {

@@ -1,5 +1,5 @@
-ghost use Rattle.std.specs.Prelude.{◌≡◌, ◌<◌, ◌≤◌, ◌↔◌, false, IsTrue};
-ghost use Rattle.rounds.specs.Marks.{opened, Due, Closed, unmarked};
+ghost use Rattle.std.specs.Prelude.{◌≡◌, ℕ, ◌<◌, ◌≤◌, ◌↔◌, false, IsTrue, length};
+ghost use Rattle.rounds.specs.Marks.{mark, opened, Due, Closed, unmarked};
 ghost use Rattle.rounds.specs.Rank.{OnlyExits, ExactlyExits};
 ghost use Rattle.rounds.specs.Rounds.{Sound};
 
@@ -7,22 +7,23 @@ use crate::automaton::Automaton;
 use crate::passing::Passing;
 use crate::round::MAX_STATES;
 
-// An automaton and marks of states that exit, while they are looked for. It knows of the automaton what `Edges` knows;
-// a struct between the two would be no plainer, since each asks its own list beside it.
+// An automaton and lent marks of states that exit, while they are looked for. It knows of the automaton what `Edges`
+// knows; a struct between the two would be no plainer, since each asks its own list beside it. The marks are a slice:
+// no rule reads an element of an array behind a `&mut` through `&self`.
 #[derive(Drop)]
 struct Marking<'a, T: Automaton> {
     automaton: &'a T,
-    marks: [bool; MAX_STATES],
+    marks: &'a mut [bool],
     ghost sound: { Sound (T.graph automaton.now) },
-    ghost few: { (T.graph automaton.now).states ≤ 4096 },
-    ghost right: { OnlyExits (T.graph automaton.now) marks },
+    ghost room: { (T.graph automaton.now).states ≤ length marks.now },
+    ghost right: { OnlyExits (T.graph automaton.now) marks.now },
 }
 
 impl<T: Automaton> Marking<'_, T> {
     // Does the transition lead to marked states alone?
     fn opens(&self, t: usize) -> bool
         requires { t < (T.graph self.now.automaton.now).transitions }
-        ensures { result ≡ opened (T.graph self.now.automaton.now) self.now.marks t }
+        ensures { result ≡ opened (T.graph self.now.automaton.now) self.now.marks.now t }
     {
         match self.automaton.passing(t) {
             Passing::Silent => self.marks[usize::from(self.automaton.target(t))],
@@ -37,7 +38,7 @@ impl<T: Automaton> Marking<'_, T> {
     // Is `s` due to be marked: is it a stop, or does a transition lead to marked states alone?
     fn is_due(&self, s: usize) -> bool
         requires { s < (T.graph self.now.automaton.now).states }
-        ensures { IsTrue result ↔ Due (T.graph self.now.automaton.now) self.now.marks s }
+        ensures { IsTrue result ↔ Due (T.graph self.now.automaton.now) self.now.marks.now s }
     {
         if self.automaton.stops(s) {
             return true;
@@ -54,11 +55,11 @@ impl<T: Automaton> Marking<'_, T> {
     }
 
     // Marks the states that are due, from the last to the first. Was there one?
-    #[tactic(auto, using(crate::proofs::Ranks::right_set))]
     fn mark_more(&mut self) -> bool
         ensures same { self.new.automaton.now ≡ self.old.automaton.now }
-        ensures less { IsTrue result → unmarked self.new.marks < unmarked self.old.marks }
-        ensures all { result ≡ false → Closed (T.graph self.new.automaton.now) self.new.marks }
+        ensures lender { self.new.marks.ghost_name ≡ self.old.marks.ghost_name }
+        ensures less { IsTrue result → unmarked self.new.marks.now < unmarked self.old.marks.now }
+        ensures all { result ≡ false → Closed (T.graph self.new.automaton.now) self.new.marks.now }
     {
         let mut changed = false;
         // A loop: what a turn marks, the turns after it read.
@@ -72,17 +73,14 @@ impl<T: Automaton> Marking<'_, T> {
     }
 }
 
-// Marks exactly the states that exit.
+// Marks exactly the states that exit, where none is marked yet.
 #[tactic(auto, using(crate::proofs::Ranks::closed_exact))]
-pub fn mark_exits<T: Automaton>(automaton: &T) -> [bool; MAX_STATES]
+pub fn mark_exits<T: Automaton>(automaton: &T, marks: &mut [bool; MAX_STATES])
     requires sound { Sound (T.graph automaton.now) }
     requires few { (T.graph automaton.now).states ≤ 4096 }
-    ensures { ExactlyExits (T.graph automaton.now) result }
+    requires blank { (s : ℕ) → mark marks.old s ≡ false }
+    ensures { ExactlyExits (T.graph automaton.now) marks.new }
 {
-    let mut marking = Marking {
-        automaton,
-        marks: [false; MAX_STATES],
-    };
+    let mut marking = Marking { automaton, marks };
     while marking.mark_more() {}
-    marking.marks
 }

@@ -16,9 +16,11 @@ pub fn goes_round<T: Automaton>(automaton: &T) -> Option<usize>
     requires few { (T.graph automaton.now).states ≤ 4096 }
     ensures { MatchOption result (NoRound (T.graph automaton.now)) (LowestRound (T.graph automaton.now)) }
 {
+    let mut exits = [false; MAX_STATES];
+    mark_exits(automaton, &mut exits);
     let edges = Edges {
         automaton,
-        exits: mark_exits(automaton),
+        exits: &exits,
     };
     let mut search = Search::new();
     // Each search writes its marks, so this is no `find` over the states.

@@ -1,6 +1,6 @@
 ghost use Rattle.std.specs.Prelude.{◌≡◌, ◌+◌, ◌<◌, ◌≤◌, length};
 ghost use Rattle.checked_table.specs.Atn.{state_at, transition_at, interval_at, mode_at, rule_at, action_at};
-ghost use Rattle.checked_table.specs.Atn.{contains, interval_has, is_symbol, matches, SetFits};
+ghost use Rattle.checked_table.specs.Atn.{contains, interval_has, is_stop, is_symbol, matches, SetFits};
 ghost use Rattle.checked_table.specs.Counts.{Counted};
 ghost use Rattle.checked_table.specs.Graphs.{passing_of, follow_of};
 ghost use Rattle.checked_table.specs.Means.{atn_in};
@@ -182,6 +182,15 @@ impl Records<'_> {
     {
         let r: RawState = self.image.record(s as usize);
         (small(r.first), small(r.count))
+    }
+
+    // Is state s the stop of a rule? Just those have no transitions.
+    pub(crate) fn is_stop(&self, s: u16) -> bool
+        requires { s < length (atn_in self.now).states }
+        ensures { result ≡ is_stop (atn_in self.now) s }
+    {
+        let raw: RawState = self.image.record(s as usize);
+        raw.count == 0
     }
 
     // Where transition t leads.

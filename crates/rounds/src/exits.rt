@@ -7,9 +7,9 @@ use crate::automaton::Automaton;
 use crate::passing::Passing;
 use crate::round::MAX_STATES;
 
-// An automaton and lent marks of states that exit, while they are looked for. It knows of the automaton what `Edges`
-// knows; a struct between the two would be no plainer, since each asks its own list beside it. The marks are a slice:
-// no rule reads an element of an array behind a `&mut` through `&self`.
+// An automaton and lent marks of states that exit, while they are looked for. It knows of the automaton much of what
+// `Edges` knows; a struct between the two would be no plainer, since each asks its own list beside it. The marks are a
+// slice: the check takes no element of an array behind a `&mut` that is read through `&self`.
 #[derive(Drop)]
 struct Marking<'a, T: Automaton> {
     automaton: &'a T,

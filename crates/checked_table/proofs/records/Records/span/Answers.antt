@@ -1,5 +1,4 @@
-use Rattle.std.proofs.Common.{ap, sym, ◌∙◌, arith, rules}
-use Rattle.checked_table.specs.declared.parts.State.{State}
+use Rattle.std.proofs.Common.{arith, rules}
 use Rattle.checked_table.proofs.Holding.{states_are, state_kept}
 use Rattle.checked_table.proofs.records.Records.span.Goals as goal
 
